@@ -17,7 +17,7 @@ use std::marker::Model;
 pub struct MemberList {
     count: u64,
     names: IdList,
-    open: Vec<Member>,
+    opened: Vec<Member>,
 }
 
 impl Model for MemberList {
@@ -28,46 +28,46 @@ impl Model for MemberList {
 
     ghost use Rattle.snap_nested.specs.ByName.{by_name, AreListed};
 
-    ghost view = { λ s. by_name s.count s.names s.open.items };
+    ghost view = { λ s. by_name s.count s.names s.opened.items };
 
-    ghost invariant = { λ s. AreListed s.count s.names s.open.items };
+    ghost invariant = { λ s. AreListed s.count s.names s.opened.items };
 }
 
 // Removes `own` from the invalid ids of the member at an index.
-fn remove_invalid_at(open: &mut Vec<Member>, at: usize, own: &IdSet)
-    requires { at < length open.old.items }
-    ensures { open.new.items ≡ slice_set open.old.items at (without_invalid own.now (member open.old.items at)) }
+fn remove_invalid_at(opened: &mut Vec<Member>, at: usize, own: &IdSet)
+    requires { at < length opened.old.items }
+    ensures { opened.new.items ≡ slice_set opened.old.items at (without_invalid own.now (member opened.old.items at)) }
 {
-    open[at].invalid.remove_all(own);
+    opened[at].invalid.remove_all(own);
 }
 
 // Removes `own` from the invalid ids of the members.
-fn remove_all_invalid(open: &mut Vec<Member>, own: &IdSet)
-    ensures count { length open.new.items ≡ length open.old.items }
-    ensures each { (j : ℕ) → member open.new.items j ≡ without_invalid own.now (member open.old.items j) }
+fn remove_all_invalid(opened: &mut Vec<Member>, own: &IdSet)
+    ensures count { length opened.new.items ≡ length opened.old.items }
+    ensures each { (j : ℕ) → member opened.new.items j ≡ without_invalid own.now (member opened.old.items j) }
 {
-    for at in 0..open.len() {
-        remove_invalid_at(open, at, own);
+    for at in 0..opened.len() {
+        remove_invalid_at(opened, at, own);
     }
 }
 
 // Removes `unused` from the own and the invalid ids of the member at an index.
-fn remove_unused_at(open: &mut Vec<Member>, at: usize, unused: &IdSet)
-    requires { at < length open.old.items }
-    ensures { open.new.items ≡ slice_set open.old.items at (without_unused unused.now (member open.old.items at)) }
+fn remove_unused_at(opened: &mut Vec<Member>, at: usize, unused: &IdSet)
+    requires { at < length opened.old.items }
+    ensures { opened.new.items ≡ slice_set opened.old.items at (without_unused unused.now (member opened.old.items at)) }
 {
-    let member = &mut open[at];
+    let member = &mut opened[at];
     member.ids.remove_all(unused);
     member.invalid.remove_all(unused);
 }
 
 // Removes `unused` from the own and the invalid ids of the members.
-fn remove_all_unused(open: &mut Vec<Member>, unused: &IdSet)
-    ensures count { length open.new.items ≡ length open.old.items }
-    ensures each { (j : ℕ) → member open.new.items j ≡ without_unused unused.now (member open.old.items j) }
+fn remove_all_unused(opened: &mut Vec<Member>, unused: &IdSet)
+    ensures count { length opened.new.items ≡ length opened.old.items }
+    ensures each { (j : ℕ) → member opened.new.items j ≡ without_unused unused.now (member opened.old.items j) }
 {
-    for at in 0..open.len() {
-        remove_unused_at(open, at, unused);
+    for at in 0..opened.len() {
+        remove_unused_at(opened, at, unused);
     }
 }
 
@@ -77,8 +77,8 @@ impl MemberList {
         ensures { IfOk result (λ ms. ms ≡ global ∷ []) }
     {
         let names = IdList::of(alloc, 0)?;
-        let mut open = Vec::new(alloc);
-        open.push(Member {
+        let mut opened = Vec::new(alloc);
+        opened.push(Member {
             is_live: true,
             parent: 0,
             owner: 0,
@@ -91,7 +91,7 @@ impl MemberList {
         Ok(MemberList {
             count: 1,
             names,
-            open,
+            opened,
         })
     }
 
@@ -108,7 +108,7 @@ impl MemberList {
         ensures none { IfNone result (member self.now name ≡ no_member) }
     {
         match self.names.find(name) {
-            Some(at) => Some(&self.open[at]),
+            Some(at) => Some(&self.opened[at]),
             None => None,
         }
     }
@@ -120,7 +120,7 @@ impl MemberList {
     {
         let names = self.names.ids();
         if index < names.len() && names[index] == name {
-            return Some(&self.open[index]);
+            return Some(&self.opened[index]);
         }
         self.get(name)
     }
@@ -133,13 +133,13 @@ impl MemberList {
         let Some(count) = self.count.checked_add(1) else {
             return Err(NoMemory);
         };
-        let Ok(()) = self.open.reserve(1) else {
+        let Ok(()) = self.opened.reserve(1) else {
             return Err(NoMemory);
         };
         let Ok(()) = self.names.set(self.count) else {
             return Err(NoMemory);
         };
-        let Ok(()) = self.open.push(new) else {
+        let Ok(()) = self.opened.push(new) else {
             unreachable!();
         };
         self.count = count;
@@ -156,7 +156,7 @@ impl MemberList {
         let name = self.count - 1;
         if let Some(at) = self.names.find(name) {
             self.names.clear(name);
-            self.open.remove(at);
+            self.opened.remove(at);
             self.count = name;
         }
     }
@@ -174,7 +174,7 @@ impl MemberList {
         let Some(at) = self.names.find(name) else {
             unreachable!();
         };
-        let member = &mut self.open[at];
+        let member = &mut self.opened[at];
         let Ok(()) = member.ids.set(id) else {
             return Err(NoMemory);
         };
@@ -203,7 +203,7 @@ impl MemberList {
         let Some(at) = self.names.find(name) else {
             unreachable!();
         };
-        let member = &mut self.open[at];
+        let member = &mut self.opened[at];
         let Ok(()) = member.ids.set_and_add_all(id, below) else {
             return Err(NoMemory);
         };
@@ -220,8 +220,8 @@ impl MemberList {
         let Some(at) = self.names.find(name) else {
             unreachable!();
         };
-        let alloc = *self.open.allocator();
-        let member = &mut self.open[at];
+        let alloc = *self.opened.allocator();
+        let member = &mut self.opened[at];
         member.is_live = false;
         member.invalid = IdSet::new(alloc);
     }
@@ -236,7 +236,7 @@ impl MemberList {
             return None;
         };
         self.names.clear(name);
-        Some(self.open.remove(at))
+        Some(self.opened.remove(at))
     }
 
     /// Removes `own` from the invalid ids of all members.
@@ -244,7 +244,7 @@ impl MemberList {
         ensures count { length self.new ≡ length self.old }
         ensures each { (n : ℕ) → member self.new n ≡ without_invalid own.now (member self.old n) }
     {
-        remove_all_invalid(&mut self.open, own);
+        remove_all_invalid(&mut self.opened, own);
     }
 
     /// Removes `unused` from the own and the invalid ids of all members.
@@ -252,6 +252,6 @@ impl MemberList {
         ensures count { length self.new ≡ length self.old }
         ensures each { (n : ℕ) → member self.new n ≡ without_unused unused.now (member self.old n) }
     {
-        remove_all_unused(&mut self.open, unused);
+        remove_all_unused(&mut self.opened, unused);
     }
 }

@@ -5,7 +5,7 @@ use Rattle.rt_values.specs.Maps.{contains}
 use Rattle.snap_ids.specs.IdLists.{is_valid}
 use Rattle.snap_records.specs.Records.{Rec, Has, Puts}
 use Rattle.snap_records.specs.Edits.{readable}
-use Rattle.snap_records.specs.Chains.{record_at, keys_at, chain_of, FoundRecord}
+use Rattle.snap_records.specs.Chains.{record_at, keys_at, chain_of, FirstRecord}
 use Rattle.snap_records.specs.declared.chains.Chains.{Chains}
 use Rattle.snap_records.specs.declared.slots.RecordNo.{RecordNo}
 use Rattle.snap_reuse.specs.declared.readers.RecordReader.{RecordReader}
@@ -48,12 +48,12 @@ IsLowestUnread c x readers n (Some b) = LowestUnread c x readers n b.0
 abbrev pub AreUsed : Chains → ℕ → Type 0
 AreUsed c x = (k q : ℕ) → slice_get (keys_at c x) k ≡ Some q → (record_at c q).id ≢ 0
 
--- The record that a write may overwrite: one with id 0, or, if there is no such record, the one with the lowest id that
--- no reader reads. None if no record has id 0 and each is read.
+-- The record that a write may overwrite: the first one with id 0, or, if there is no such record, the one with the
+-- lowest id that no reader reads. None if no record has id 0 and each is read.
 abbrev pub IsReusable : Chains → ℕ → List RecordReader → Option RecordNo → Type 0
 IsReusable c x readers None = AreUsed c x × IsLowestUnread c x readers (length (keys_at c x)) None
 IsReusable c x readers (Some b) =
-    FoundRecord c x 0 b.0 ⊎ (AreUsed c x × IsLowestUnread c x readers (length (keys_at c x)) (Some b))
+    FirstRecord c x 0 b.0 ⊎ (AreUsed c x × IsLowestUnread c x readers (length (keys_at c x)) (Some b))
 
 -- The readable record by these valid ids, if there is one, has an id of the list.
 abbrev pub IsReadWithin : (ℕ → Bool) → List Rec → List ℕ → Type 0

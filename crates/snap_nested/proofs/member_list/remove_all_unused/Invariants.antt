@@ -5,8 +5,8 @@ use Rattle.snap_nested.proofs.member_list.remove_all_unused.Given as goal
 
 abbrev pub invariant-loop-at : goal.invariant-loop-at
 invariant-loop-at l = record {
-  count : length l.open.items ≡ length l.initial.open.items;
-  within : l.at ≤ length l.initial.open.items;
-  done : (j : ℕ) → j < l.at → member l.open.items j ≡ without_unused l.unused (member l.initial.open.items j);
-  rest : (j : ℕ) → l.at ≤ j → member l.open.items j ≡ member l.initial.open.items j;
+  count : length l.opened.items ≡ length l.initial.opened.items;
+  within : l.at ≤ length l.initial.opened.items;
+  done : (j : ℕ) → j < l.at → member l.opened.items j ≡ without_unused l.unused (member l.initial.opened.items j);
+  rest : (j : ℕ) → l.at ≤ j → member l.opened.items j ≡ member l.initial.opened.items j;
 }

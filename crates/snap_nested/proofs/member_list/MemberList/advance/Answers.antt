@@ -23,7 +23,7 @@ returns-clause-ok c =
     let m = c.index_mut-member.result.now in
     let new = set_member c.set.new.self c.args.id c.args.invalid m in
     subst (λ (l : List Member). by_name c.self.inside.count c.self.inside.names
-    (slice_set c.self.inside.open.items c.in-Some.at new) ≡ slice_set l c.args.name
+    (slice_set c.self.inside.opened.items c.in-Some.at new) ≡ slice_set l c.args.name
     (renewed c.args.id c.args.invalid (member l c.args.name))) c.self.view_is
     (changed_by_name c.self.invariant c.in-Some.at c.args.name c.in-Some.ensures.within c.in-Some.ensures.some new
     (renewed c.args.id c.args.invalid) m

@@ -24,7 +24,7 @@ returns-clause-ok c =
     let below = c.args.below.now in
     let new = set_member c.set_and_add_all.new.self c.args.id c.args.invalid m in
     subst (λ (l : List Member). by_name c.self.inside.count c.self.inside.names
-    (slice_set c.self.inside.open.items c.in-Some.at new) ≡ slice_set l c.args.name
+    (slice_set c.self.inside.opened.items c.in-Some.at new) ≡ slice_set l c.args.name
     (merged c.args.id below c.args.invalid (member l c.args.name))) c.self.view_is
     (changed_by_name c.self.invariant c.in-Some.at c.args.name c.in-Some.ensures.within c.in-Some.ensures.some new
     (merged c.args.id below c.args.invalid) m

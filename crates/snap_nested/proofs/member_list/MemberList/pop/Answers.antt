@@ -10,7 +10,7 @@ pub invariant_of-self : goal.invariant_of-self
 invariant_of-self c =
     let k = c.self.inside.count - 1 in
     let is : suc k ≡ c.self.inside.count = omega (arith, c.if-self-eq0.false) in
-    let a = subst (λ (n : ℕ). AreListed n c.self.inside.names c.self.inside.open.items) (sym is) c.self.invariant in
+    let a = subst (λ (n : ℕ). AreListed n c.self.inside.names c.self.inside.opened.items) (sym is) c.self.invariant in
     subst (λ (l : List ℕ). AreListed k l c.remove.new.self.items) (sym c.clear.ensures)
     (subst (λ (l : List Member). AreListed k (without_id k c.self.inside.names) l) (sym c.remove.ensures.items)
     (popped_listed a c.in-Some.at c.in-Some.ensures.within c.in-Some.ensures.some))
@@ -20,7 +20,7 @@ returns-in-Some c = λ ms m same live.
     let k = c.self.inside.count - 1 in
     let is : suc k ≡ c.self.inside.count = omega (arith, c.if-self-eq0.false) in
     let ns = c.self.inside.names in
-    let os = c.self.inside.open.items in
+    let os = c.self.inside.opened.items in
     let a = subst (λ (n : ℕ). AreListed n ns os) (sym is) c.self.invariant in
     ap (λ (l : List ℕ). by_name k l c.remove.new.self.items) c.clear.ensures
     ∙ ap (λ (l : List Member). by_name k (without_id k ns) l) c.remove.ensures.items
@@ -33,7 +33,7 @@ returns-in_default c = λ ms m same live.
     let k = c.self.inside.count - 1 in
     let is : suc k ≡ c.self.inside.count = omega (arith, c.if-self-eq0.false) in
     let ns = c.self.inside.names in
-    let os = c.self.inside.open.items in
+    let os = c.self.inside.opened.items in
     absurd (not_both m.is_live live (ap (λ (o : Member). o.is_live)
     (sym (last_apart (by_name k ns os) ms (member_of ns os k) m
     (ap (λ (n : ℕ). by_name n ns os) is ∙ c.self.view_is ∙ same)).1 ∙ absent ns os k c.in_default.ensures.none)))
