@@ -9,3 +9,4 @@ pub mod SameStamps
 pub mod UsedIds
 pub mod Sorted
 pub mod Searching
+pub mod Noted

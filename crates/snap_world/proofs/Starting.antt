@@ -1,6 +1,6 @@
 -- Records of no object represent the first world.
 use Rattle.std.proofs.Common.{◌≡◌, ℕ, zero, suc, ◌<◌, List, [], ◌∷◌, length, refl, Some, true, false, arith}
-use Rattle.std.specs.Prelude.{slice_get, slice_index_or}
+use Rattle.std.specs.Prelude.{slice_get}
 use Rattle.rt_values.specs.Maps.{contains}
 use Rattle.snap_api.specs.World.{World, start, snapshot_of, is_live}
 use Rattle.snap_records.specs.Records.{Rec, Has}
@@ -10,6 +10,7 @@ use Rattle.snap_nested.proofs.Start.{members_start, alone_start}
 use Rattle.snap_nested.specs.Members.{member, ids_of, global}
 use Rattle.snap_nested.specs.declared.family.Member.{Member}
 use Rattle.snap_laws.specs.Represents.{WorldParts, Represents, views_of, bases_of}
+use Rattle.snap_world.specs.Noting.{noted_of}
 
 abbrev ms : List Member
 ms = global ∷ []
@@ -24,7 +25,7 @@ begun clock = record {
   ids = ids_of ms;
   owner = λ n. (member ms n).owner;
   kind = λ n. (member ms n).kind;
-  noted = λ n x. contains x (slice_index_or [] n []);
+  noted = λ n x. contains x (noted_of ([], []) n);
   chains = λ x. [];
   stamps = [];
   watchers = [];

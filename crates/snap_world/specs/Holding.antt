@@ -1,5 +1,5 @@
 -- Trusted: the parts of a `RecordWorld`.
-use Rattle.std.specs.Prelude.{◌≡◌, ℕ, ◌<◌, Bool, [], length, slice_index_or, slice_get, true, Some, IsSome, List}
+use Rattle.std.specs.Prelude.{◌≡◌, ℕ, ◌<◌, Bool, length, slice_get, true, Some, IsSome, List}
 use Rattle.rt_values.specs.declared.maps.StampedValue.{StampedValue}
 use Rattle.rt_values.specs.declared.value.Value.{Value}
 use Rattle.snap_policy.specs.Rules.{Rules}
@@ -9,6 +9,7 @@ use Rattle.slab.specs.Slab.{get}
 use Rattle.snap_nested.specs.Ids.{valid_for_base}
 use Rattle.snap_laws.specs.Maps.{read_entry}
 use Rattle.snap_laws.specs.Applies.{choice_at}
+use Rattle.snap_world.specs.Noting.{noted_of}
 use Rattle.snap_world.specs.Choices.{choice_of_settled}
 use Rattle.snap_world.specs.declared.settling.Settled.{Settled}
 use Rattle.snap_world.specs.declared.settling.ReadRecords.{ReadRecords}
@@ -22,12 +23,12 @@ abbrev pub world_parts : {P : Type 0} → RecordWorld P → WorldParts P
 world_parts s = record {
   clock = s.clock;
   objects = s.objects.items;
-  names = length s.family.members.items;
+  names = length s.family.members;
   handed = s.family.handed;
-  ids = ids_of s.family.members.items;
-  owner = λ n. (member s.family.members.items n).owner;
-  kind = λ n. (member s.family.members.items n).kind;
-  noted = λ n x. contains x (slice_index_or s.wrote.items n []);
+  ids = ids_of s.family.members;
+  owner = λ n. (member s.family.members n).owner;
+  kind = λ n. (member s.family.members n).kind;
+  noted = λ n x. contains x (noted_of s.wrote n);
   chains = λ x. chain_of s.chains x;
   stamps = s.stamps.items;
   watchers = s.lasts.items;

@@ -4,3 +4,4 @@ pub mod Choices
 pub mod Noting
 pub mod Stamps
 pub mod Sorted
+pub mod Overwrites

@@ -1,10 +1,11 @@
 // Applies of snapshots: which objects conflict, and what the parent gets.
 ghost use Rattle.std.specs.Prelude.{◌≡◌, ℕ, ◌<◌, ◌^◌, true, [], length, slice_index_or, IfOk, IfSome, IfNone, OnOk, OnErr};
 ghost use Rattle.snap_nested.specs.Members.{member};
+ghost use Rattle.snap_world.specs.Noting.{noted_of};
 
 use crate::RecordWorld;
 use crate::moving::{pad_all, raise_noted, stamp_settled};
-use crate::noting::{clear_noted_objects, fill, note_settled, noted, set_noted};
+use crate::noting::{note_settled, noted, set_noted};
 use crate::settling::{ReadRecords, Settled, lesser, settled_of};
 use rt_values::{Name, NoMemory, ObjectNo};
 use snap_api::{Choice, choose, is_conflict};
@@ -24,8 +25,8 @@ impl<P: Policy> RecordWorld<P> {
     // Returns the records of an object that a snapshot reads for its base, that its parent reads, and that the snapshot
     // reads. There are such records in every represented world.
     fn find_read(&self, name: Name, into: Name, object: ObjectNo) -> Option<ReadRecords>
-        requires live { (member self.now.family.members.items name).is_live ≡ true }
-        requires above { (member self.now.family.members.items into).is_live ≡ true }
+        requires live { (member self.now.family.members name).is_live ≡ true }
+        requires above { (member self.now.family.members into).is_live ≡ true }
         requires there { object < length self.now.objects.items }
         ensures is { IfSome result (AreRead self.now name into object) }
         ensures none { IfNone result ((w : World P) → Represents (world_parts self.now) w → 0 < name → ⊥) }
@@ -59,8 +60,8 @@ impl<P: Policy> RecordWorld<P> {
         into: Name,
         object: ObjectNo,
     ) -> Result<bool, NoMemory>
-        requires live { (member self.now.family.members.items name).is_live ≡ true }
-        requires above { (member self.now.family.members.items into).is_live ≡ true }
+        requires live { (member self.now.family.members name).is_live ≡ true }
+        requires above { (member self.now.family.members into).is_live ≡ true }
         requires there { object < length self.now.objects.items }
         ensures is { IfOk result (λ found. found ≡ is_clash (choice_at P.rules (world_parts self.now) name into object)) }
         ensures free { (w : World P) → Represents (world_parts self.now) w → 0 < name
@@ -86,8 +87,8 @@ impl<P: Policy> RecordWorld<P> {
         into: Name,
         object: ObjectNo,
     ) -> Result<Choice, NoMemory>
-        requires live { (member self.now.family.members.items name).is_live ≡ true }
-        requires above { (member self.now.family.members.items into).is_live ≡ true }
+        requires live { (member self.now.family.members name).is_live ≡ true }
+        requires above { (member self.now.family.members into).is_live ≡ true }
         requires there { object < length self.now.objects.items }
         ensures { IfOk result (λ choice. choice ≡ choice_at P.rules (world_parts self.now) name into object) }
     {
@@ -112,10 +113,10 @@ impl<P: Policy> RecordWorld<P> {
         name: Name,
         into: Name,
     ) -> Result<Option<ObjectNo>, NoMemory>
-        requires live { (member self.now.family.members.items name).is_live ≡ true }
-        requires above { (member self.now.family.members.items into).is_live ≡ true }
+        requires live { (member self.now.family.members name).is_live ≡ true }
+        requires above { (member self.now.family.members into).is_live ≡ true }
         ensures is { IfOk result (IsLeast (λ x. is_clash (choice_at P.rules (world_parts self.now) name into x))
-            (slice_index_or self.now.wrote.items name [])) }
+            (noted_of self.now.wrote name)) }
         ensures free { (w : World P) → Represents (world_parts self.now) w → 0 < name
             → ((x : ℕ) → (world_parts self.now).noted name x ≡ true → IsMergeFree P.is_free_merge w name into x)
             → IsOk result }
@@ -136,10 +137,10 @@ impl<P: Policy> RecordWorld<P> {
     // Settles the objects that a snapshot wrote. Returns `None` if one of them conflicts, or if the process is out of
     // memory. Every such object is known in a represented world.
     pub(crate) fn settle(&self, alloc: Global, name: Name, into: Name) -> Option<Vec<Settled>>
-        requires live { (member self.now.family.members.items name).is_live ≡ true }
-        requires above { (member self.now.family.members.items into).is_live ≡ true }
+        requires live { (member self.now.family.members name).is_live ≡ true }
+        requires above { (member self.now.family.members into).is_live ≡ true }
         ensures objects { IfSome result (λ settled. objects_of settled.items
-            ≡ slice_index_or self.now.wrote.items name []) }
+            ≡ noted_of self.now.wrote name) }
         ensures each { IfSome result (λ settled. AreSettled P.rules (world_parts self.now) name into settled.items) }
     {
         let mut settled = Vec::new(alloc);
@@ -168,12 +169,12 @@ impl<P: Policy> RecordWorld<P> {
         into: Name,
         settled: &[Settled],
     ) -> Result<(), NoMemory>
-        requires live { (member self.old.family.members.items name).is_live ≡ true }
+        requires live { (member self.old.family.members name).is_live ≡ true }
         requires inner { 0 < name }
-        requires parent { (member self.old.family.members.items name).parent ≡ into }
-        requires above { (member self.old.family.members.items into).is_live ≡ true }
+        requires parent { (member self.old.family.members name).parent ≡ into }
+        requires above { (member self.old.family.members into).is_live ≡ true }
         requires room { self.old.clock < 2 ^ 60 }
-        requires objects { objects_of settled.now ≡ slice_index_or self.old.wrote.items name [] }
+        requires objects { objects_of settled.now ≡ noted_of self.old.wrote name }
         requires each { AreSettled P.rules (world_parts self.old) name into settled.now }
         ensures ok { OnOk result (Merges (world_parts self.old) (world_parts self.new) name into
             (choice_at P.rules (world_parts self.old) name into)) }
@@ -182,7 +183,7 @@ impl<P: Policy> RecordWorld<P> {
         let Ok(more) = note_settled(alloc, &self.wrote, into, settled) else {
             return Err(NoMemory);
         };
-        let Ok(()) = fill(alloc, &mut self.wrote, into) else {
+        let Ok(()) = self.wrote.add(alloc, into) else {
             return Err(NoMemory);
         };
         let Ok(()) = pad_all(alloc, &mut self.chains, settled) else {
@@ -195,7 +196,7 @@ impl<P: Policy> RecordWorld<P> {
         raise_noted(&mut self.chains, &self.wrote, name, self.objects.len(), id);
         stamp_settled(&mut self.stamps, into, settled);
         set_noted(&mut self.wrote, into, more);
-        clear_noted_objects(alloc, &mut self.wrote, name);
+        self.wrote.remove(name);
         self.clock += 1;
         Ok(())
     }

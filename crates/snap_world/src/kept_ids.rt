@@ -30,17 +30,17 @@ pub fn find_kept_ids(
     name: Name,
     ids: &mut KeptIds,
 ) -> Result<(), NoMemory>
-    requires live { (member family.now.members.items name).is_live ≡ true }
+    requires live { (member family.now.members name).is_live ≡ true }
     requires there { x < length chains.now.heads.items }
-    ensures own { OnOk result (contains (member family.now.members.items name).id ids.new ≡ true) }
-    ensures read { OnOk result (AreRecordsOwned (ids_of family.now.members.items) (chain_of chains.now x)
-        → AreReadWithin (ids_of family.now.members.items) name (chain_of chains.now x) ids.new) }
-    ensures needed { OnOk result (AreRecordsOwned (ids_of family.now.members.items) (chain_of chains.now x)
+    ensures own { OnOk result (contains (member family.now.members name).id ids.new ≡ true) }
+    ensures read { OnOk result (AreRecordsOwned (ids_of family.now.members) (chain_of chains.now x)
+        → AreReadWithin (ids_of family.now.members) name (chain_of chains.now x) ids.new) }
+    ensures needed { OnOk result (AreRecordsOwned (ids_of family.now.members) (chain_of chains.now x)
         → (i : ℕ) → contains i ids.new ≡ true
-        → IsNeeded (ids_of family.now.members.items) name (chain_of chains.now x) i) }
+        → IsNeeded (ids_of family.now.members) name (chain_of chains.now x) i) }
     ensures few { OnOk result (length ids.new
-        ≤ 2 * live_count (ids_of family.now.members.items).live family.now.held + 1) }
-    ensures names { OnOk result (AreLiveNames (ids_of family.now.members.items) family.now.held) }
+        ≤ 2 * live_count (ids_of family.now.members).live family.now.held + 1) }
+    ensures names { OnOk result (AreLiveNames (ids_of family.now.members) family.now.held) }
 {
     if chains.count(x) <= WALKED {
         return find_walked_ids(family, chains, x, name, ids);
@@ -56,16 +56,16 @@ fn find_walked_ids(
     name: Name,
     ids: &mut KeptIds,
 ) -> Result<(), NoMemory>
-    requires live { (member family.now.members.items name).is_live ≡ true }
+    requires live { (member family.now.members name).is_live ≡ true }
     requires there { x < length chains.now.heads.items }
-    ensures own { OnOk result (contains (member family.now.members.items name).id ids.new ≡ true) }
-    ensures read { OnOk result (AreReadWithin (ids_of family.now.members.items) name
+    ensures own { OnOk result (contains (member family.now.members name).id ids.new ≡ true) }
+    ensures read { OnOk result (AreReadWithin (ids_of family.now.members) name
         (chain_of chains.now x) ids.new) }
     ensures needed { OnOk result ((i : ℕ) → contains i ids.new ≡ true
-        → IsNeeded (ids_of family.now.members.items) name (chain_of chains.now x) i) }
+        → IsNeeded (ids_of family.now.members) name (chain_of chains.now x) i) }
     ensures few { OnOk result (length ids.new
-        ≤ 2 * live_count (ids_of family.now.members.items).live family.now.held + 1) }
-    ensures names { OnOk result (AreLiveNames (ids_of family.now.members.items) family.now.held) }
+        ≤ 2 * live_count (ids_of family.now.members).live family.now.held + 1) }
+    ensures names { OnOk result (AreLiveNames (ids_of family.now.members) family.now.held) }
 {
     ids.set_only(family.id(name))?;
     for reader in family.open_names() {
@@ -86,14 +86,14 @@ fn add_read_ids(
 ) -> Result<(), NoMemory>
     requires { x < length chains.now.heads.items }
     ensures more { (i : ℕ) → contains i ids.old ≡ true → contains i ids.new ≡ true }
-    ensures view { OnOk result ((ids_of family.now.members.items).live reader ≡ true → reader ≢ name
-        → IsReadWithin ((ids_of family.now.members.items).sees reader) (chain_of chains.now x) ids.new) }
-    ensures base { OnOk result ((ids_of family.now.members.items).live reader ≡ true → 0 < reader
-        → IsReadWithin (valid_for_base (ids_of family.now.members.items) reader) (chain_of chains.now x) ids.new) }
+    ensures view { OnOk result ((ids_of family.now.members).live reader ≡ true → reader ≢ name
+        → IsReadWithin ((ids_of family.now.members).sees reader) (chain_of chains.now x) ids.new) }
+    ensures base { OnOk result ((ids_of family.now.members).live reader ≡ true → 0 < reader
+        → IsReadWithin (valid_for_base (ids_of family.now.members) reader) (chain_of chains.now x) ids.new) }
     ensures needed { OnOk result ((i : ℕ) → contains i ids.new ≡ true → (contains i ids.old ≡ true)
-        ⊎ IsNeeded (ids_of family.now.members.items) name (chain_of chains.now x) i) }
+        ⊎ IsNeeded (ids_of family.now.members) name (chain_of chains.now x) i) }
     ensures few { OnOk result (length ids.new
-        ≤ length ids.old + (if (ids_of family.now.members.items).live reader then 2 else 0)) }
+        ≤ length ids.old + (if (ids_of family.now.members).live reader then 2 else 0)) }
 {
     if !family.live(reader) {
         return Ok(());
@@ -113,16 +113,16 @@ fn add_both_ids(
     reader: Name,
     ids: &mut KeptIds,
 ) -> Result<(), NoMemory>
-    requires live { (member family.now.members.items reader).is_live ≡ true }
+    requires live { (member family.now.members reader).is_live ≡ true }
     requires inner { 0 < reader }
     requires there { x < length chains.now.heads.items }
     ensures more { (i : ℕ) → contains i ids.old ≡ true → contains i ids.new ≡ true }
     ensures view { OnOk result
-        (IsReadWithin ((ids_of family.now.members.items).sees reader) (chain_of chains.now x) ids.new) }
+        (IsReadWithin ((ids_of family.now.members).sees reader) (chain_of chains.now x) ids.new) }
     ensures base { OnOk result
-        (IsReadWithin (valid_for_base (ids_of family.now.members.items) reader) (chain_of chains.now x) ids.new) }
+        (IsReadWithin (valid_for_base (ids_of family.now.members) reader) (chain_of chains.now x) ids.new) }
     ensures needed { OnOk result ((name i : ℕ) → reader ≢ name → contains i ids.new ≡ true
-        → (contains i ids.old ≡ true) ⊎ IsNeeded (ids_of family.now.members.items) name (chain_of chains.now x) i) }
+        → (contains i ids.old ≡ true) ⊎ IsNeeded (ids_of family.now.members) name (chain_of chains.now x) i) }
     ensures few { OnOk result (length ids.new ≤ length ids.old + 2) }
 {
     let read = chains.readable_both(
@@ -145,15 +145,15 @@ fn add_one_id(
     reader: Name,
     ids: &mut KeptIds,
 ) -> Result<(), NoMemory>
-    requires live { (member family.now.members.items reader).is_live ≡ true }
+    requires live { (member family.now.members reader).is_live ≡ true }
     requires there { x < length chains.now.heads.items }
     ensures more { (i : ℕ) → contains i ids.old ≡ true → contains i ids.new ≡ true }
     ensures view { OnOk result (reader ≢ name
-        → IsReadWithin ((ids_of family.now.members.items).sees reader) (chain_of chains.now x) ids.new) }
+        → IsReadWithin ((ids_of family.now.members).sees reader) (chain_of chains.now x) ids.new) }
     ensures base { OnOk result (0 < reader
-        → IsReadWithin (valid_for_base (ids_of family.now.members.items) reader) (chain_of chains.now x) ids.new) }
+        → IsReadWithin (valid_for_base (ids_of family.now.members) reader) (chain_of chains.now x) ids.new) }
     ensures needed { OnOk result ((i : ℕ) → contains i ids.new ≡ true → (contains i ids.old ≡ true)
-        ⊎ IsNeeded (ids_of family.now.members.items) name (chain_of chains.now x) i) }
+        ⊎ IsNeeded (ids_of family.now.members) name (chain_of chains.now x) i) }
     ensures few { OnOk result (length ids.new ≤ length ids.old + 2) }
 {
     add_view_id(family, chains, x, name, reader, ids)?;
@@ -170,13 +170,13 @@ fn add_view_id(
     reader: Name,
     ids: &mut KeptIds,
 ) -> Result<(), NoMemory>
-    requires live { (member family.now.members.items reader).is_live ≡ true }
+    requires live { (member family.now.members reader).is_live ≡ true }
     requires there { x < length chains.now.heads.items }
     ensures more { (i : ℕ) → contains i ids.old ≡ true → contains i ids.new ≡ true }
     ensures view { OnOk result (reader ≢ name
-        → IsReadWithin ((ids_of family.now.members.items).sees reader) (chain_of chains.now x) ids.new) }
+        → IsReadWithin ((ids_of family.now.members).sees reader) (chain_of chains.now x) ids.new) }
     ensures needed { OnOk result ((i : ℕ) → contains i ids.new ≡ true → (contains i ids.old ≡ true)
-        ⊎ IsNeeded (ids_of family.now.members.items) name (chain_of chains.now x) i) }
+        ⊎ IsNeeded (ids_of family.now.members) name (chain_of chains.now x) i) }
     ensures few { OnOk result (length ids.new ≤ length ids.old + 1) }
 {
     if reader == name {
@@ -194,13 +194,13 @@ fn add_base_id(
     reader: Name,
     ids: &mut KeptIds,
 ) -> Result<(), NoMemory>
-    requires live { (member family.now.members.items reader).is_live ≡ true }
+    requires live { (member family.now.members reader).is_live ≡ true }
     requires there { x < length chains.now.heads.items }
     ensures more { (i : ℕ) → contains i ids.old ≡ true → contains i ids.new ≡ true }
     ensures base { OnOk result (0 < reader
-        → IsReadWithin (valid_for_base (ids_of family.now.members.items) reader) (chain_of chains.now x) ids.new) }
+        → IsReadWithin (valid_for_base (ids_of family.now.members) reader) (chain_of chains.now x) ids.new) }
     ensures needed { OnOk result ((name i : ℕ) → contains i ids.new ≡ true → (contains i ids.old ≡ true)
-        ⊎ IsNeeded (ids_of family.now.members.items) name (chain_of chains.now x) i) }
+        ⊎ IsNeeded (ids_of family.now.members) name (chain_of chains.now x) i) }
     ensures few { OnOk result (length ids.new ≤ length ids.old + 1) }
 {
     if reader == 0 {

@@ -13,6 +13,7 @@ mod applying;
 mod boxed;
 mod kept_ids;
 mod moving;
+mod notes;
 mod noting;
 mod searched_ids;
 mod settling;

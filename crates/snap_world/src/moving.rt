@@ -7,8 +7,10 @@ ghost use Rattle.snap_records.specs.Chains.{chain_of};
 ghost use Rattle.std.specs.Option.{unwrap_or};
 ghost use Rattle.snap_laws.specs.TakesFor.{stamp_differs, differ_stamps};
 ghost use Rattle.snap_world.specs.Choices.{EntriesAre, objects_of};
+ghost use Rattle.snap_world.specs.Noting.{noted_of};
 ghost use Rattle.snap_world.specs.Stamps.{AreSame};
 
+use crate::notes::Notes;
 use crate::settling::Settled;
 use crate::stamp_list::StampList;
 use rt_values::{Name, NoMemory, ObjectNo, Objects, StampedValue};
@@ -218,17 +220,17 @@ fn raise_all(chains: &mut Chains, noted: &Objects, count: usize, id: u64)
 }
 
 /// Gives the first record of each object that the snapshot wrote an id.
-pub fn raise_noted(chains: &mut Chains, wrote: &[Objects], name: Name, count: usize, id: u64)
+pub fn raise_noted(chains: &mut Chains, wrote: &Notes, name: Name, count: usize, id: u64)
     requires within { count ≤ length chains.old.heads.items }
-    requires some { (x : ℕ) → x < count → contains x (slice_index_or wrote.now name []) ≡ true
+    requires some { (x : ℕ) → x < count → contains x (noted_of wrote.now name) ≡ true
         → 0 < length (chain_of chains.old x) }
-    ensures put { (x : ℕ) → x < count → contains x (slice_index_or wrote.now name []) ≡ true
+    ensures put { (x : ℕ) → x < count → contains x (noted_of wrote.now name) ≡ true
         → chain_of chains.new x ≡ with_head_id id (chain_of chains.old x) }
-    ensures left { (x : ℕ) → contains x (slice_index_or wrote.now name []) ≡ false
+    ensures left { (x : ℕ) → contains x (noted_of wrote.now name) ≡ false
         → chain_of chains.new x ≡ chain_of chains.old x }
     ensures many { length chains.new.heads.items ≡ length chains.old.heads.items }
 {
-    if let Some(noted) = wrote.get(name as usize) {
+    if let Some(noted) = wrote.find(name) {
         raise_all(chains, noted, count, id);
     }
 }
@@ -308,15 +310,15 @@ fn clear_all(chains: &mut Chains, noted: &Objects, count: usize, ids: &IdSet)
 }
 
 /// Gives id 0 to the records with these ids of each object that the snapshot wrote.
-pub fn clear_noted(chains: &mut Chains, wrote: &[Objects], name: Name, count: usize, ids: &IdSet)
+pub fn clear_noted(chains: &mut Chains, wrote: &Notes, name: Name, count: usize, ids: &IdSet)
     requires { count ≤ length chains.old.heads.items }
-    ensures put { (x : ℕ) → x < count → contains x (slice_index_or wrote.now name []) ≡ true
+    ensures put { (x : ℕ) → x < count → contains x (noted_of wrote.now name) ≡ true
         → chain_of chains.new x ≡ chain_without_ids ids.now (chain_of chains.old x) }
-    ensures left { (x : ℕ) → contains x (slice_index_or wrote.now name []) ≡ false
+    ensures left { (x : ℕ) → contains x (noted_of wrote.now name) ≡ false
         → chain_of chains.new x ≡ chain_of chains.old x }
     ensures many { length chains.new.heads.items ≡ length chains.old.heads.items }
 {
-    if let Some(noted) = wrote.get(name as usize) {
+    if let Some(noted) = wrote.find(name) {
         clear_all(chains, noted, count, ids);
     }
 }

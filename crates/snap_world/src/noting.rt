@@ -3,17 +3,18 @@ ghost use Rattle.std.specs.Prelude.{◌≡◌, ◌≢◌, ◌∷◌, ◌++◌, �
 ghost use Rattle.std.specs.Option.{unwrap_or};
 ghost use Rattle.rt_values.specs.Maps.{contains, with_member};
 ghost use Rattle.snap_world.specs.Choices.{with_taken};
-ghost use Rattle.snap_world.specs.Noting.{IsNoted};
+ghost use Rattle.snap_world.specs.Noting.{IsNoted, noted_of};
 
+use crate::notes::Notes;
 use crate::settling::Settled;
 use rt_values::{Name, NoMemory, ObjectNo, Objects};
 use std::alloc::Global;
 
 /// Returns the objects that a snapshot wrote.
-pub fn noted(wrote: &[Objects], name: Name) -> &[ObjectNo]
-    ensures { result.now ≡ slice_index_or wrote.now name [] }
+pub fn noted(wrote: &Notes, name: Name) -> &[ObjectNo]
+    ensures { result.now ≡ noted_of wrote.now name }
 {
-    match wrote.get(name as usize) {
+    match wrote.find(name) {
         Some(noted) => noted.numbers(),
         None => &[],
     }
@@ -54,13 +55,12 @@ fn with_taken(alloc: Global, noted: &[ObjectNo], settled: &[Settled]) -> Result<
 /// Returns the objects that a snapshot wrote with those that it takes from a child, or `None` if they are the same.
 pub fn note_settled(
     alloc: Global,
-    wrote: &[Objects],
+    wrote: &Notes,
     into: Name,
     settled: &[Settled],
 ) -> Result<Option<Objects>, NoMemory>
-    ensures { IfOk result (λ o. unwrap_or o (slice_index_or wrote.now into [])
-        ≡ (if nat_lt 0 into then with_taken settled.now (slice_index_or wrote.now into []) else slice_index_or
-        wrote.now into [])) }
+    ensures { IfOk result (λ o. unwrap_or o (noted_of wrote.now into)
+        ≡ (if nat_lt 0 into then with_taken settled.now (noted_of wrote.now into) else noted_of wrote.now into)) }
 {
     let before = noted(wrote, into);
     if 0 < into && has_more(before, settled) {
@@ -72,64 +72,53 @@ pub fn note_settled(
     Ok(None)
 }
 
-/// Notes that a snapshot wrote an object, unless the snapshot is global. Returns whether the object is new in its list.
-pub fn note_object(wrote: &mut Vec<Objects>, name: Name, object: ObjectNo) -> Result<bool, NoMemory>
-    requires { name < length wrote.old.items }
-    ensures ok { IfOk result (IsNoted wrote.old.items wrote.new.items name object) }
-    ensures err { OnErr result ((n : ℕ) → slice_index_or wrote.new.items n [] ≡ slice_index_or wrote.old.items n []) }
-    ensures many { length wrote.new.items ≡ length wrote.old.items }
+// Returns whether the list of a snapshot has the object.
+fn has_noted(wrote: &Notes, name: Name, object: ObjectNo) -> bool
+    ensures { result ≡ contains object (noted_of wrote.now name) }
 {
-    if name == 0 || wrote[name as usize].has(object) {
+    match wrote.find(name) {
+        Some(noted) => noted.has(object),
+        None => false,
+    }
+}
+
+/// Notes that a snapshot wrote an object, unless the snapshot is global. Returns whether the object is new in its list.
+pub fn note_object(wrote: &mut Notes, name: Name, object: ObjectNo) -> Result<bool, NoMemory>
+    requires { contains name wrote.old.0 ≡ true }
+    ensures ok { IfOk result (IsNoted wrote.old wrote.new name object) }
+    ensures err { OnErr result ((n : ℕ) → noted_of wrote.new n ≡ noted_of wrote.old n) }
+    ensures names { wrote.new.0 ≡ wrote.old.0 }
+{
+    if name == 0 || has_noted(wrote, name, object) {
         return Ok(false);
     }
-    let Ok(()) = wrote[name as usize].push(object) else {
+    let Ok(()) = wrote.push(name, object) else {
         return Err(NoMemory);
     };
     Ok(true)
 }
 
 /// Removes the last object of a snapshot's list, if the object was new in it.
-pub fn unnote_object(wrote: &mut Vec<Objects>, name: Name, is_new: bool)
-    requires { name < length wrote.old.items }
-    ensures last { is_new ≡ true → (xs : List ℕ) (x : ℕ) → slice_index_or wrote.old.items name [] ≡ xs ++ x ∷ []
-        → slice_index_or wrote.new.items name [] ≡ xs }
-    ensures kept { is_new ≡ false → slice_index_or wrote.new.items name [] ≡ slice_index_or wrote.old.items name [] }
-    ensures others { (n : ℕ) → n ≢ name → slice_index_or wrote.new.items n [] ≡ slice_index_or wrote.old.items n [] }
+pub fn unnote_object(wrote: &mut Notes, name: Name, is_new: bool)
+    requires { contains name wrote.old.0 ≡ true }
+    ensures last { is_new ≡ true → (xs : List ℕ) (x : ℕ) → noted_of wrote.old name ≡ xs ++ x ∷ []
+        → noted_of wrote.new name ≡ xs }
+    ensures kept { is_new ≡ false → noted_of wrote.new name ≡ noted_of wrote.old name }
+    ensures others { (n : ℕ) → n ≢ name → noted_of wrote.new n ≡ noted_of wrote.old n }
 {
     if is_new {
-        wrote[name as usize].pop();
+        wrote.pop(name);
     }
 }
 
 /// Replaces the objects that a snapshot wrote, if there are others.
-pub fn set_noted(wrote: &mut Vec<Objects>, name: Name, more: Option<Objects>)
-    requires { name < length wrote.old.items }
-    ensures here { slice_index_or wrote.new.items name [] ≡ unwrap_or more (slice_index_or wrote.old.items name []) }
-    ensures others { (n : ℕ) → n ≢ name → slice_index_or wrote.new.items n [] ≡ slice_index_or wrote.old.items n [] }
-    ensures many { length wrote.new.items ≡ length wrote.old.items }
+pub fn set_noted(wrote: &mut Notes, name: Name, more: Option<Objects>)
+    requires { contains name wrote.old.0 ≡ true }
+    ensures here { noted_of wrote.new name ≡ unwrap_or more (noted_of wrote.old name) }
+    ensures others { (n : ℕ) → n ≢ name → noted_of wrote.new n ≡ noted_of wrote.old n }
+    ensures names { wrote.new.0 ≡ wrote.old.0 }
 {
     if let Some(noted) = more {
-        wrote[name as usize] = noted;
+        wrote.set(name, noted);
     }
-}
-
-/// Removes the objects that a snapshot wrote.
-pub fn clear_noted_objects(alloc: Global, wrote: &mut Vec<Objects>, name: Name)
-    ensures here { slice_index_or wrote.new.items name [] ≡ [] }
-    ensures others { (n : ℕ) → n ≢ name → slice_index_or wrote.new.items n [] ≡ slice_index_or wrote.old.items n [] }
-{
-    if (name as usize) < wrote.len() {
-        wrote[name as usize] = Objects::new(alloc);
-    }
-}
-
-/// Appends empty lists until there is one for this name.
-pub fn fill(alloc: Global, wrote: &mut Vec<Objects>, name: Name) -> Result<(), NoMemory>
-    ensures same { (n : ℕ) → slice_index_or wrote.new.items n [] ≡ slice_index_or wrote.old.items n [] }
-    ensures there { OnOk result (name < length wrote.new.items) }
-{
-    while wrote.len() <= name as usize {
-        wrote.push(Objects::new(alloc))?;
-    }
-    Ok(())
 }

@@ -40,17 +40,17 @@ pub fn find_searched_ids(
     name: Name,
     ids: &mut KeptIds,
 ) -> Result<(), NoMemory>
-    requires live { (member family.now.members.items name).is_live ≡ true }
+    requires live { (member family.now.members name).is_live ≡ true }
     requires there { x < length chains.now.heads.items }
-    ensures own { OnOk result (contains (member family.now.members.items name).id ids.new ≡ true) }
-    ensures read { OnOk result (AreRecordsOwned (ids_of family.now.members.items) (chain_of chains.now x)
-        → AreReadWithin (ids_of family.now.members.items) name (chain_of chains.now x) ids.new) }
-    ensures needed { OnOk result (AreRecordsOwned (ids_of family.now.members.items) (chain_of chains.now x)
+    ensures own { OnOk result (contains (member family.now.members name).id ids.new ≡ true) }
+    ensures read { OnOk result (AreRecordsOwned (ids_of family.now.members) (chain_of chains.now x)
+        → AreReadWithin (ids_of family.now.members) name (chain_of chains.now x) ids.new) }
+    ensures needed { OnOk result (AreRecordsOwned (ids_of family.now.members) (chain_of chains.now x)
         → (i : ℕ) → contains i ids.new ≡ true
-        → IsNeeded (ids_of family.now.members.items) name (chain_of chains.now x) i) }
+        → IsNeeded (ids_of family.now.members) name (chain_of chains.now x) i) }
     ensures few { OnOk result (length ids.new
-        ≤ 2 * live_count (ids_of family.now.members.items).live family.now.held + 1) }
-    ensures names { OnOk result (AreLiveNames (ids_of family.now.members.items) family.now.held) }
+        ≤ 2 * live_count (ids_of family.now.members).live family.now.held + 1) }
+    ensures names { OnOk result (AreLiveNames (ids_of family.now.members) family.now.held) }
 {
     let order = sorted_ids(alloc, chains, x)?;
     find_ids_in(alloc, family, &order, name, ids)?;
@@ -65,17 +65,17 @@ fn find_ids_in(
     name: Name,
     ids: &mut KeptIds,
 ) -> Result<(), NoMemory>
-    requires { (member family.now.members.items name).is_live ≡ true }
-    ensures own { OnOk result (contains (member family.now.members.items name).id ids.new ≡ true) }
+    requires { (member family.now.members name).is_live ≡ true }
+    ensures own { OnOk result (contains (member family.now.members name).id ids.new ≡ true) }
     ensures read { OnOk result ((c : List Rec) → AreIdsOf c order.now
-        → AreRecordsOwned (ids_of family.now.members.items) c
-        → AreReadWithin (ids_of family.now.members.items) name c ids.new) }
+        → AreRecordsOwned (ids_of family.now.members) c
+        → AreReadWithin (ids_of family.now.members) name c ids.new) }
     ensures needed { OnOk result ((c : List Rec) → AreIdsOf c order.now
-        → AreRecordsOwned (ids_of family.now.members.items) c → (i : ℕ) → contains i ids.new ≡ true
-        → IsNeeded (ids_of family.now.members.items) name c i) }
+        → AreRecordsOwned (ids_of family.now.members) c → (i : ℕ) → contains i ids.new ≡ true
+        → IsNeeded (ids_of family.now.members) name c i) }
     ensures few { OnOk result (length ids.new
-        ≤ 2 * live_count (ids_of family.now.members.items).live family.now.held + 1) }
-    ensures names { OnOk result (AreLiveNames (ids_of family.now.members.items) family.now.held) }
+        ≤ 2 * live_count (ids_of family.now.members).live family.now.held + 1) }
+    ensures names { OnOk result (AreLiveNames (ids_of family.now.members) family.now.held) }
 {
     let mut found = Vec::new(alloc);
     ids.set_only(family.id(name))?;
@@ -148,8 +148,8 @@ fn global_ids(alloc: Global, order: &IdList, own: &IdSet) -> Result<IdList, NoMe
 
 // Returns the ids of `order` that a live snapshot owns.
 fn own_ids(alloc: Global, family: &Family, order: &IdList, reader: Name) -> Result<IdList, NoMemory>
-    requires { (member family.now.members.items reader).is_live ≡ true }
-    ensures { IfOk result (λ ids. AreOwnIn ((ids_of family.now.members.items).owns reader) order.now ids) }
+    requires { (member family.now.members reader).is_live ≡ true }
+    ensures { IfOk result (λ ids. AreOwnIn ((ids_of family.now.members).owns reader) order.now ids) }
 {
     if reader == 0 {
         return global_ids(alloc, order, family.ids(reader));
@@ -221,9 +221,9 @@ fn highest_seen(ids: &[u64], own: &IdSet, id: u64, invalid: &IdSet) -> u64
 
 // Returns the highest of the ids that is valid for the base of a live snapshot, or 0.
 fn highest_for_base(family: &Family, ids: &[u64], reader: Name) -> u64
-    requires live { (member family.now.members.items reader).is_live ≡ true }
+    requires live { (member family.now.members reader).is_live ≡ true }
     requires rising { IsRising ids.now }
-    ensures { IsHighest (valid_for_base (ids_of family.now.members.items) reader) ids.now result }
+    ensures { IsHighest (valid_for_base (ids_of family.now.members) reader) ids.now result }
 {
     highest_seen(
         ids,
@@ -257,9 +257,9 @@ fn higher(a: u64, b: u64) -> u64
 fn parent_index(family: &Family, reader: Name, searched: usize) -> Option<usize>
     ensures within { IfSome result (λ at. at < searched) }
     ensures parent { IfSome result (λ at. slice_index_or family.now.held at 0
-        ≡ (member family.now.members.items reader).parent) }
-    ensures live { IfSome result (λ at. (ids_of family.now.members.items).live
-        (member family.now.members.items reader).parent ≡ true) }
+        ≡ (member family.now.members reader).parent) }
+    ensures live { IfSome result (λ at. (ids_of family.now.members).live
+        (member family.now.members reader).parent ≡ true) }
     ensures inner { IfSome result (λ at. 0 < reader) }
 {
     let parent = family.parent(reader);
@@ -276,10 +276,10 @@ fn parent_index(family: &Family, reader: Name, searched: usize) -> Option<usize>
 
 // Returns the highest id of `order` that is valid for the base of a live snapshot, or 0.
 fn find_base(family: &Family, order: &IdList, found: &[Searched], reader: Name) -> u64
-    requires live { (member family.now.members.items reader).is_live ≡ true }
-    requires found { AreSearched (ids_of family.now.members.items) order.now family.now.held found.now }
-    ensures { AreOwned (ids_of family.now.members.items) order.now
-        → IsHighest (valid_for_base (ids_of family.now.members.items) reader) order.now result }
+    requires live { (member family.now.members reader).is_live ≡ true }
+    requires found { AreSearched (ids_of family.now.members) order.now family.now.held found.now }
+    ensures { AreOwned (ids_of family.now.members) order.now
+        → IsHighest (valid_for_base (ids_of family.now.members) reader) order.now result }
 {
     let Some(at) = parent_index(family, reader, found.len()) else {
         return highest_for_base(family, order.ids(), reader);
@@ -297,9 +297,9 @@ fn search_live(
     found: &[Searched],
     reader: Name,
 ) -> Result<Searched, NoMemory>
-    requires live { (member family.now.members.items reader).is_live ≡ true }
-    requires found { AreSearched (ids_of family.now.members.items) order.now family.now.held found.now }
-    ensures { IfOk result (λ s. IsSearched (ids_of family.now.members.items) order.now reader s) }
+    requires live { (member family.now.members reader).is_live ≡ true }
+    requires found { AreSearched (ids_of family.now.members) order.now family.now.held found.now }
+    ensures { IfOk result (λ s. IsSearched (ids_of family.now.members) order.now reader s) }
 {
     let own = own_ids(alloc, family, order, reader)?;
     let base = find_base(family, order, found, reader);
@@ -315,9 +315,9 @@ fn search(
     found: &[Searched],
     reader: Name,
 ) -> Result<Searched, NoMemory>
-    requires { AreSearched (ids_of family.now.members.items) order.now family.now.held found.now }
-    ensures { IfOk result (λ s. (ids_of family.now.members.items).live reader ≡ true
-        → IsSearched (ids_of family.now.members.items) order.now reader s) }
+    requires { AreSearched (ids_of family.now.members) order.now family.now.held found.now }
+    ensures { IfOk result (λ s. (ids_of family.now.members).live reader ≡ true
+        → IsSearched (ids_of family.now.members) order.now reader s) }
 {
     if !family.live(reader) {
         return Ok(Searched {
@@ -338,17 +338,17 @@ fn add_read_ids(
     ids: &mut KeptIds,
 ) -> Result<(), NoMemory>
     ensures more { OnOk result ((i : ℕ) → contains i ids.old ≡ true → contains i ids.new ≡ true) }
-    ensures view { OnOk result ((c : List Rec) → IsFound (ids_of family.now.members.items) c reader found.now
-        → (ids_of family.now.members.items).live reader ≡ true → reader ≢ name
-        → IsReadWithin ((ids_of family.now.members.items).sees reader) c ids.new) }
-    ensures base { OnOk result ((c : List Rec) → IsFound (ids_of family.now.members.items) c reader found.now
-        → (ids_of family.now.members.items).live reader ≡ true → 0 < reader
-        → IsReadWithin (valid_for_base (ids_of family.now.members.items) reader) c ids.new) }
-    ensures needed { OnOk result ((c : List Rec) → ((ids_of family.now.members.items).live reader ≡ true
-        → IsFound (ids_of family.now.members.items) c reader found.now) → (i : ℕ) → contains i ids.new ≡ true
-        → (contains i ids.old ≡ true) ⊎ IsNeeded (ids_of family.now.members.items) name c i) }
+    ensures view { OnOk result ((c : List Rec) → IsFound (ids_of family.now.members) c reader found.now
+        → (ids_of family.now.members).live reader ≡ true → reader ≢ name
+        → IsReadWithin ((ids_of family.now.members).sees reader) c ids.new) }
+    ensures base { OnOk result ((c : List Rec) → IsFound (ids_of family.now.members) c reader found.now
+        → (ids_of family.now.members).live reader ≡ true → 0 < reader
+        → IsReadWithin (valid_for_base (ids_of family.now.members) reader) c ids.new) }
+    ensures needed { OnOk result ((c : List Rec) → ((ids_of family.now.members).live reader ≡ true
+        → IsFound (ids_of family.now.members) c reader found.now) → (i : ℕ) → contains i ids.new ≡ true
+        → (contains i ids.old ≡ true) ⊎ IsNeeded (ids_of family.now.members) name c i) }
     ensures few { OnOk result (length ids.new
-        ≤ length ids.old + (if (ids_of family.now.members.items).live reader then 2 else 0)) }
+        ≤ length ids.old + (if (ids_of family.now.members).live reader then 2 else 0)) }
 {
     if !family.live(reader) {
         return Ok(());
@@ -366,15 +366,15 @@ fn add_live_ids(
     reader: Name,
     ids: &mut KeptIds,
 ) -> Result<(), NoMemory>
-    requires live { (member family.now.members.items reader).is_live ≡ true }
+    requires live { (member family.now.members reader).is_live ≡ true }
     ensures more { OnOk result ((i : ℕ) → contains i ids.old ≡ true → contains i ids.new ≡ true) }
-    ensures view { OnOk result ((c : List Rec) → IsFound (ids_of family.now.members.items) c reader found.now
-        → reader ≢ name → IsReadWithin ((ids_of family.now.members.items).sees reader) c ids.new) }
-    ensures base { OnOk result ((c : List Rec) → IsFound (ids_of family.now.members.items) c reader found.now
-        → 0 < reader → IsReadWithin (valid_for_base (ids_of family.now.members.items) reader) c ids.new) }
-    ensures needed { OnOk result ((c : List Rec) → IsFound (ids_of family.now.members.items) c reader found.now
+    ensures view { OnOk result ((c : List Rec) → IsFound (ids_of family.now.members) c reader found.now
+        → reader ≢ name → IsReadWithin ((ids_of family.now.members).sees reader) c ids.new) }
+    ensures base { OnOk result ((c : List Rec) → IsFound (ids_of family.now.members) c reader found.now
+        → 0 < reader → IsReadWithin (valid_for_base (ids_of family.now.members) reader) c ids.new) }
+    ensures needed { OnOk result ((c : List Rec) → IsFound (ids_of family.now.members) c reader found.now
         → (i : ℕ) → contains i ids.new ≡ true
-        → (contains i ids.old ≡ true) ⊎ IsNeeded (ids_of family.now.members.items) name c i) }
+        → (contains i ids.old ≡ true) ⊎ IsNeeded (ids_of family.now.members) name c i) }
     ensures few { OnOk result (length ids.new ≤ length ids.old + 2) }
 {
     let view = higher(last_id(found.own.ids()), found.base);

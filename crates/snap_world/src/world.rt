@@ -2,10 +2,12 @@
 ghost use Rattle.std.specs.Prelude.{◌≡◌, ℕ, Bool, ◌+◌, ◌*◌, ◌≤◌, ◌<◌, ◌==◌, ◌^◌, not, if◌then◌else◌, slice_get, List, [], true, false, length, slice_index_or, IfOk, IfSome, IfNone, OnOk, OnErr};
 ghost use Rattle.rt_values.specs.Maps.{contains};
 ghost use Rattle.snap_nested.specs.Members.{ids_of, member};
+ghost use Rattle.snap_world.specs.Noting.{noted_of};
 
 use crate::kept_ids::find_kept_ids;
 use crate::moving::{clear_noted, find_changed_objects, stamp_object};
-use crate::noting::{clear_noted_objects, fill, note_object, unnote_object};
+use crate::notes::Notes;
+use crate::noting::{note_object, unnote_object};
 use crate::stamp_list::{StampList, replace_last};
 use crate::used_ids::{add_record_ids, count_records};
 use rt_values::{Caller, Kind, Name, NoMemory, ObjectNo, Objects, Ty, Value, WatcherNo};
@@ -31,7 +33,7 @@ pub struct RecordWorld<P> {
     pub(crate) objects: Vec<Object<P>>,
     pub(crate) family: Family,
     pub(crate) chains: Chains,
-    pub(crate) wrote: Vec<Objects>,
+    pub(crate) wrote: Notes,
     pub(crate) stamps: Vec<u64>,
     pub(crate) lasts: Vec<Option<StampList>>,
     spare: Vec<u64>,
@@ -40,7 +42,7 @@ pub struct RecordWorld<P> {
     ghost few: { family.handed ≤ 3 * clock + 1 },
     ghost many: { length chains.heads.items ≡ length objects.items },
     ghost stamped: { length stamps.items ≡ length objects.items },
-    ghost blank: { (n : ℕ) → length family.members.items ≤ n → slice_index_or wrote.items n [] ≡ [] },
+    ghost blank: { (n : ℕ) → length family.members ≤ n → noted_of wrote n ≡ [] },
 }
 
 impl<P: Policy> RecordWorld<P> {
@@ -54,6 +56,7 @@ impl<P: Policy> RecordWorld<P> {
     ghost use Rattle.snap_laws.specs.Reads.{read_refusal};
     ghost use Rattle.snap_records.specs.Chains.{record_at};
     ghost use Rattle.snap_api.specs.World.{World};
+    ghost use Rattle.snap_world.specs.Overwrites.{SparesReadRecords};
     ghost use Rattle.snap_nested.specs.Members.{is_free};
     ghost use Rattle.snap_ids.specs.IdLists.{without_id};
     ghost use Rattle.snap_laws.specs.Unused.{AreUnused};
@@ -86,7 +89,7 @@ impl<P: Policy> RecordWorld<P> {
             objects: Vec::new(alloc),
             family: Family::new(alloc)?,
             chains: Chains::new(alloc),
-            wrote: Vec::new(alloc),
+            wrote: Notes::new(alloc),
             stamps: Vec::new(alloc),
             lasts: Vec::new(alloc),
             spare: Vec::new(alloc),
@@ -125,7 +128,7 @@ impl<P: Policy> RecordWorld<P> {
         parent: Name,
         kind: Kind,
     ) -> Result<Name, NoMemory>
-        requires live { (member self.old.family.members.items parent).is_live ≡ true }
+        requires live { (member self.old.family.members parent).is_live ≡ true }
         requires room { self.old.clock < 2 ^ 60 }
         ensures ok { IfOk result (λ n. IsTake (world_parts self.old) (world_parts self.new) caller parent kind n) }
         ensures err { OnErr result (IsUnchanged (world_parts self.old) (world_parts self.new)) }
@@ -187,7 +190,7 @@ impl<P: Policy> RecordWorld<P> {
 
     // Returns whether the policy holds the value equivalent to the one that the snapshot reads, if it reads one.
     fn compare(&self, name: Name, object: ObjectNo, value: &Value) -> Option<bool>
-        requires live { (member self.now.family.members.items name).is_live ≡ true }
+        requires live { (member self.now.family.members name).is_live ≡ true }
         requires there { object < length self.now.objects.items }
         ensures is { IfSome result (λ like. IsComparison P.rules (world_parts self.now) name object value.now like) }
         ensures none { IfNone result ((e : StampedValue)
@@ -214,10 +217,10 @@ impl<P: Policy> RecordWorld<P> {
         value: Value,
         kept: &KeptIds,
     ) -> Result<(), NoMemory>
-        requires live { (member self.old.family.members.items name).is_live ≡ true }
+        requires live { (member self.old.family.members name).is_live ≡ true }
         requires there { object < length self.old.objects.items }
         requires room { self.old.clock < 2 ^ 60 }
-        requires own { contains (member self.old.family.members.items name).id kept.now ≡ true }
+        requires own { contains (member self.old.family.members name).id kept.now ≡ true }
         requires read { AreRecordsOwned (world_parts self.old).ids ((world_parts self.old).chains object)
             → AreReadWithin (world_parts self.old).ids name ((world_parts self.old).chains object) kept.now }
         ensures ok { OnOk result ((w : World P) → Represents (world_parts self.old) w
@@ -226,7 +229,7 @@ impl<P: Policy> RecordWorld<P> {
             → IsWithin kept.now ((world_parts self.new).chains object)) }
         ensures err { OnErr result (IsUnchanged (world_parts self.old) (world_parts self.new)) }
     {
-        let Ok(()) = fill(alloc, &mut self.wrote, name) else {
+        let Ok(()) = self.wrote.add(alloc, name) else {
             return Err(NoMemory);
         };
         let Ok(is_new) = note_object(&mut self.wrote, name, object) else {
@@ -251,13 +254,16 @@ impl<P: Policy> RecordWorld<P> {
         object: ObjectNo,
         value: Value,
     ) -> Result<(), NoMemory>
-        requires live { (member self.old.family.members.items name).is_live ≡ true }
+        requires live { (member self.old.family.members name).is_live ≡ true }
         requires there { object < length self.old.objects.items }
         requires room { self.old.clock < 2 ^ 60 }
         ensures ok { OnOk result ((w : World P) → Represents (world_parts self.old) w
             → Represents (world_parts self.new) (world_after_write w name object value)) }
         ensures swept { OnOk result ((w : World P) → Represents (world_parts self.old) w
             → IsSwept (world_parts self.old).ids name self.old.family.held
+            ((world_parts self.old).chains object) ((world_parts self.new).chains object)) }
+        ensures spared { OnOk result ((w : World P) → Represents (world_parts self.old) w
+            → SparesReadRecords (world_parts self.old).ids name
             ((world_parts self.old).chains object) ((world_parts self.new).chains object)) }
         ensures err { OnErr result (IsUnchanged (world_parts self.old) (world_parts self.new)) }
     {
@@ -316,7 +322,7 @@ impl<P: Policy> RecordWorld<P> {
 
     // Closes a snapshot, which keeps its records and ids.
     fn close(&mut self, name: Name)
-        requires live { (member self.old.family.members.items name).is_live ≡ true }
+        requires live { (member self.old.family.members name).is_live ≡ true }
         requires inner { 0 < name }
         ensures { DisposesTo (world_parts self.old) (world_parts self.new) name }
     {
@@ -325,29 +331,25 @@ impl<P: Policy> RecordWorld<P> {
 
     // Gives id 0 to the records of a closed snapshot without live descendants, and forgets its ids and what it wrote.
     fn forget(&mut self, name: Name)
-        requires there { name < length self.old.family.members.items }
-        requires free { is_free self.old.family.members.items (member self.old.family.members.items name) ≡ true }
+        requires there { name < length self.old.family.members }
+        requires free { is_free self.old.family.members (member self.old.family.members name) ≡ true }
         ensures stays { (w : World P) → Represents (world_parts self.old) w → Represents (world_parts self.new) w }
         ensures held { self.new.family.held ≡ without_id name self.old.family.held }
         ensures unnoted { (x : ℕ) → (world_parts self.new).noted name x ≡ false }
     {
-        let alloc = *self.wrote.allocator();
-        clear_noted(
-            &mut self.chains,
-            &self.wrote,
-            name,
-            self.objects.len(),
-            self.family.ids(name),
-        );
+        let Some(ids) = self.family.find_ids(name) else {
+            unreachable!();
+        };
+        clear_noted(&mut self.chains, &self.wrote, name, self.objects.len(), ids);
         self.family.forget(name);
-        clear_noted_objects(alloc, &mut self.wrote, name);
+        self.wrote.remove(name);
     }
 
     // Forgets the closed snapshots without live descendants.
     fn forget_all(&mut self)
         ensures stays { (w : World P) → Represents (world_parts self.old) w → Represents (world_parts self.new) w }
-        ensures none { (n : ℕ) → is_free self.new.family.members.items
-            (member self.new.family.members.items n) ≡ false }
+        ensures none { (n : ℕ) → is_free self.new.family.members
+            (member self.new.family.members n) ≡ false }
     {
         let mut next = self.family.freed();
         while let Some(name) = next {
@@ -434,7 +436,7 @@ impl<P: Policy> RecordWorld<P> {
 
     // Returns the readable record of an object for a live snapshot. There is one in every represented world.
     fn shown(&self, name: Name, object: ObjectNo) -> Option<RecordNo>
-        requires live { (member self.now.family.members.items name).is_live ≡ true }
+        requires live { (member self.now.family.members name).is_live ≡ true }
         requires there { object < length self.now.objects.items }
         ensures is { IfSome result (λ r. Reads ((world_parts self.now).ids.sees name)
             ((world_parts self.now).chains object) (record_at self.now.chains r.0).entry) }
@@ -530,11 +532,11 @@ impl<P: Policy> RecordWorld<P> {
 }
 
 impl<P: Policy> Versions for RecordWorld<P> {
-    ghost use Rattle.std.specs.Prelude.{◌≡◌, ◌≢◌, true, None, length, IsOk, Ok, Err};
+    ghost use Rattle.std.specs.Prelude.{◌≡◌, ◌≢◌, ◌<◌, true, None, Some, length, IsOk, Ok, Err};
     ghost use Rattle.rt_values.specs.Maps.{value_at};
     ghost use Rattle.rt_values.specs.Values.{is_flat};
-    ghost use Rattle.snap_api.specs.Calls.{Calls, Logs, IsOwn, taken_reply, taken_for_reply, read_reply, write_reply, apply_reply, dispose_reply};
-    ghost use Rattle.snap_api.specs.World.{World, snapshot_of};
+    ghost use Rattle.snap_api.specs.Calls.{Calls, Makes, Logs, IsOwn, taken_reply, taken_for_reply, read_reply, write_reply, apply_reply, dispose_reply};
+    ghost use Rattle.snap_api.specs.World.{World, make_refusal, snapshot_of};
     ghost use Rattle.snap_api.specs.declared.data.Refusal.TheVariants as Refusal;
     ghost use Rattle.snap_api.specs.declared.data.Request.TheVariants as Request;
     ghost use Rattle.snap_laws.specs.Coverage.{IsSwept};
@@ -543,6 +545,8 @@ impl<P: Policy> Versions for RecordWorld<P> {
     ghost use Rattle.snap_laws.specs.Represents.{Represents};
     ghost use Rattle.snap_world.specs.Holding.{world_parts};
     ghost use Rattle.snap_world.specs.HoldingLaws.{counts_of};
+    ghost use Rattle.snap_world.specs.Overwrites.{SparesReadRecords};
+    ghost use Rattle.snap_api.specs.declared.data.Refusal.{Refusal as refusal_data};
 
     type P = P;
 
@@ -564,13 +568,13 @@ impl<P: Policy> Versions for RecordWorld<P> {
         self.lasts.len()
     }
 
-    fn make(
-        &mut self,
-        alloc: Global,
-        ty: Ty,
-        policy: P,
-        value: Value,
-    ) -> Result<ObjectNo, Refusal> {
+    fn make(&mut self, alloc: Global, ty: Ty, policy: P, value: Value) -> Result<ObjectNo, Refusal>
+        requires { ⟦<RecordWorld<P> as Versions>⟧.object_count self.old < 65536 }
+        ensures made { Makes P.rules (Represents (world_parts self.old)) (Represents (world_parts self.new)) ty policy
+            value result }
+        ensures log { ⟦<RecordWorld<P> as Versions>⟧.log self.new ≡ None }
+        ensures refused { (e : refusal_data) → make_refusal P.rules ty policy value ≡ Some e → result ≡ Err e }
+    {
         if let Some(refusal) = Self::make_refusal(ty, &policy, &value) {
             return Err(refusal);
         }
@@ -681,6 +685,9 @@ impl<P: Policy> Versions for RecordWorld<P> {
         ensures swept { result ≡ Ok true → (w : World P) → Represents (world_parts self.old) w
             → IsSwept (world_parts self.old).ids name self.old.family.held
             ((world_parts self.old).chains object) ((world_parts self.new).chains object) }
+        ensures spared { result ≡ Ok true → (w : World P) → Represents (world_parts self.old) w
+            → SparesReadRecords (world_parts self.old).ids name
+            ((world_parts self.old).chains object) ((world_parts self.new).chains object) }
     {
         if let Some(refusal) = self.write_refusal(caller, name, object, &value) {
             return Err(refusal);
@@ -728,8 +735,8 @@ impl<P: Policy> Versions for RecordWorld<P> {
         ensures log { Logs None None caller (Request.Dispose name) (dispose_reply result) }
         ensures own { (w : World P) → Represents (world_parts self.old) w → IsOwn w caller name → IsOk result }
         ensures free { result ≢ Err Refusal.NoMemory }
-        ensures forgot { (member self.old.family.members.items name).is_live ≡ true → OnOk result ((n : ℕ)
-            → is_free self.new.family.members.items (member self.new.family.members.items n) ≡ false) }
+        ensures forgot { (member self.old.family.members name).is_live ≡ true → OnOk result ((n : ℕ)
+            → is_free self.new.family.members (member self.new.family.members n) ≡ false) }
     {
         if let Some(refusal) = self.dispose_refusal(caller, name) {
             return Err(refusal);

@@ -10,7 +10,7 @@ use Rattle.snap_world.proofs.kept_ids.add_base_id.Goals as goal
 
 pub returns-clause-base : goal.returns-clause-base
 returns-clause-base c =
-    let m : Member = member c.args.family.now.members.items c.args.reader in
+    let m : Member = member c.args.family.now.members c.args.reader in
     let chain = chain_of c.args.chains.now c.args.x in
     on_ok_more c.add_record_id.result
     (λ added inner. λ i h. added i (ap (has_id i) (c.readable_both-read.ensures.base
@@ -21,7 +21,7 @@ returns-clause-base c =
 
 pub returns-clause-needed : goal.returns-clause-needed
 returns-clause-needed c =
-    let m : Member = member c.args.family.now.members.items c.args.reader in
+    let m : Member = member c.args.family.now.members c.args.reader in
     let chain = chain_of c.args.chains.now c.args.x in
     on_ok_more c.add_record_id.result (λ only. λ name i h. elim (only i h) [
       | inl t ↦ inl t

@@ -11,7 +11,7 @@ use Rattle.snap_world.proofs.kept_ids.add_both_ids.Goals as goal
 
 pub returns-clause-view : goal.returns-clause-view
 returns-clause-view c =
-    let m : Member = member c.args.family.now.members.items c.args.reader in
+    let m : Member = member c.args.family.now.members c.args.reader in
     let chain = chain_of c.args.chains.now c.args.x in
     on_ok_more c.add_record_id-2.result
     (λ added. λ i h. c.add_record_id-2.ensures.more i
@@ -21,7 +21,7 @@ returns-clause-view c =
 
 pub returns-clause-base : goal.returns-clause-base
 returns-clause-base c =
-    let m : Member = member c.args.family.now.members.items c.args.reader in
+    let m : Member = member c.args.family.now.members c.args.reader in
     let chain = chain_of c.args.chains.now c.args.x in
     on_ok_more c.add_record_id-2.result (λ added. λ i h. added i (ap (has_id i) (c.readable_both-read.ensures.base
     ∙ ap (λ (l : List ℕ). readable (is_valid_except l c.id.result c.invalid.result.now) chain) c.ids.ensures
@@ -31,7 +31,7 @@ returns-clause-base c =
 
 pub returns-clause-needed : goal.returns-clause-needed
 returns-clause-needed c =
-    let m : Member = member c.args.family.now.members.items c.args.reader in
+    let m : Member = member c.args.family.now.members c.args.reader in
     let chain = chain_of c.args.chains.now c.args.x in
     on_ok_more c.add_record_id-2.result (λ only. λ name i other h. elim (only i h) [
       | inl t ↦ elim (c.in_ok-add_record_id.ensures.only i t) [

@@ -11,7 +11,7 @@ use Rattle.snap_world.proofs.kept_ids.add_view_id.Goals as goal
 
 pub returns-clause-view : goal.returns-clause-view
 returns-clause-view c =
-    let m : Member = member c.args.family.now.members.items c.args.reader in
+    let m : Member = member c.args.family.now.members c.args.reader in
     let chain = chain_of c.args.chains.now c.args.x in
     on_ok_more c.add_record_id.result (λ added other. λ i h. added i (ap (has_id i) (c.readable-found.ensures.is
     ∙ ap (λ (n : ℕ). readable (is_valid n c.invalid.result.now) chain) c.id.ensures.id
@@ -19,7 +19,7 @@ returns-clause-view c =
 
 pub returns-clause-needed : goal.returns-clause-needed
 returns-clause-needed c =
-    let m : Member = member c.args.family.now.members.items c.args.reader in
+    let m : Member = member c.args.family.now.members c.args.reader in
     let chain = chain_of c.args.chains.now c.args.x in
     on_ok_more c.add_record_id.result (λ only. λ i h. elim (only i h) [
       | inl t ↦ inl t

@@ -26,7 +26,7 @@ only_one i id ids is h =
 pub loop-reader-init : goal.loop-reader-init
 loop-reader-init c =
     let s = c.args.family.now in
-    let open_name = λ (n : ℕ) (live : (ids_of s.members.items).live n ≡ true). ap (λ (l : List ℕ). contains n l)
+    let open_name = λ (n : ℕ) (live : (ids_of s.members).live n ≡ true). ap (λ (l : List ℕ). contains n l)
     c.open_names-reader-items.ensures.names ∙ s.listed.live n live in
     record {
       own = one_listed _ _ c.set_only.new.self c.id.ensures.id c.in_ok-set_only.ensures.ok;
@@ -43,7 +43,7 @@ loop-reader-preserved c =
     let items = c.open_names-reader-items.result.now in
     let at = c.loop-reader.reader-index in
     let reader = slice_index_or items at 0 in
-    let f = ids_of c.args.family.now.members.items in
+    let f = ids_of c.args.family.now.members in
     let chain = chain_of c.args.chains.now c.args.x in
     let inv = c.loop-reader.invariant in
     let still = λ (n : ℕ) (other : n ≡ reader
@@ -80,7 +80,7 @@ returns-clause-read c =
 pub returns-clause-few : goal.returns-clause-few
 returns-clause-few c =
     let items = c.open_names-reader-items.result.now in
-    let f = ids_of c.args.family.now.members.items in
+    let f = ids_of c.args.family.now.members in
     let end : length items ≤ c.loop-reader.reader-index = omega (arith, c.loop-reader-test.false) in
     let whole : live_count f.live (take c.loop-reader.reader-index items) ≡ live_count f.live c.args.family.now.held =
     ap (λ (l : List ℕ). live_count f.live l)

@@ -9,14 +9,14 @@ use Rattle.snap_world.proofs.kept_ids.find_walked_ids.Given as goal
 
 abbrev pub invariant-loop-reader : goal.invariant-loop-reader
 invariant-loop-reader l = record {
-  own : contains (member l.family.members.items l.name).id l.ids ≡ true;
-  views : (n : ℕ) → (ids_of l.family.members.items).live n ≡ true → n ≢ l.name
+  own : contains (member l.family.members l.name).id l.ids ≡ true;
+  views : (n : ℕ) → (ids_of l.family.members).live n ≡ true → n ≢ l.name
       → contains n (drop l.reader-index l.reader-items) ≡ false
-      → IsReadWithin ((ids_of l.family.members.items).sees n) (chain_of l.chains l.x) l.ids;
+      → IsReadWithin ((ids_of l.family.members).sees n) (chain_of l.chains l.x) l.ids;
   needed : (i : ℕ) → contains i l.ids ≡ true
-      → IsNeeded (ids_of l.family.members.items) l.name (chain_of l.chains l.x) i;
-  few : length l.ids ≤ 2 * live_count (ids_of l.family.members.items).live (take l.reader-index l.reader-items) + 1;
-  bases : (n : ℕ) → (ids_of l.family.members.items).live n ≡ true → 0 < n
+      → IsNeeded (ids_of l.family.members) l.name (chain_of l.chains l.x) i;
+  few : length l.ids ≤ 2 * live_count (ids_of l.family.members).live (take l.reader-index l.reader-items) + 1;
+  bases : (n : ℕ) → (ids_of l.family.members).live n ≡ true → 0 < n
       → contains n (drop l.reader-index l.reader-items) ≡ false
-      → IsReadWithin (valid_for_base (ids_of l.family.members.items) n) (chain_of l.chains l.x) l.ids;
+      → IsReadWithin (valid_for_base (ids_of l.family.members) n) (chain_of l.chains l.x) l.ids;
 }

@@ -12,7 +12,7 @@ use Rattle.snap_world.proofs.searched_ids.add_live_ids.Goals as goal
 
 pub returns-clause-view : goal.returns-clause-view
 returns-clause-view c = λ chain found other i h.
-    let ms = c.args.family.now.members.items in
+    let ms = c.args.family.now.members in
     let high : IsHighest ((ids_of ms).sees c.args.reader) found.order c.higher-view.result = view_over
     c.args.family.now.sound.sound c.requires.live found.found.own (subst (λ (l : List ℕ). IsHighest (λ j. true) l c.last_id.result) c.ids.ensures.ids c.last_id.ensures)
     (found.found.base found.owned) c.higher-view.ensures.first c.higher-view.ensures.second c.higher-view.ensures.one in
@@ -22,14 +22,14 @@ returns-clause-view c = λ chain found other i h.
 
 pub returns-clause-base : goal.returns-clause-base
 returns-clause-base c = λ chain found inner i h.
-    let ms = c.args.family.now.members.items in
+    let ms = c.args.family.now.members in
     let p = found_highest (base_reader ms c.args.reader c.requires.live) found.ids (found.found.base found.owned) i h in
     subst (λ (n : ℕ). contains n c.add_unless-2.new.ids ≡ true) p.1
     (c.in_ok-add_unless-2.ensures.added (unlike c.args.reader 0 (positive c.args.reader inner)) p.0)
 
 pub returns-clause-needed : goal.returns-clause-needed
 returns-clause-needed c = λ chain found i h.
-    let ms = c.args.family.now.members.items in
+    let ms = c.args.family.now.members in
     let f = ids_of ms in
     let n = c.args.reader in
     let of_base = found.found.base found.owned in

@@ -8,12 +8,12 @@ use Rattle.snap_world.proofs.searched_ids.find_base.Goals as goal
 
 pub returns-in_default : goal.returns-in_default
 returns-in_default c = λ owned.
-    subst (λ (l : List ℕ). IsHighest (valid_for_base (ids_of c.args.family.now.members.items) c.args.reader) l
+    subst (λ (l : List ℕ). IsHighest (valid_for_base (ids_of c.args.family.now.members) c.args.reader) l
     c.highest_for_base.result) c.ids.ensures.ids c.highest_for_base.ensures
 
 pub returns : goal.returns
 returns c = λ owned.
-    let ms = c.args.family.now.members.items in
+    let ms = c.args.family.now.members in
     let f = ids_of ms in
     let n = c.args.reader in
     let of_parent = searched_at f c.args.order.now c.args.family.now.held c.args.found.now (f.parent n) c.in-Some.at

@@ -29,7 +29,7 @@ only_one i id ids is h =
 pub loop-reader-init : goal.loop-reader-init
 loop-reader-init c =
     let s = c.args.family.now in
-    let open_name = λ (n : ℕ) (live : (ids_of s.members.items).live n ≡ true). ap (λ (l : List ℕ). contains n l)
+    let open_name = λ (n : ℕ) (live : (ids_of s.members).live n ≡ true). ap (λ (l : List ℕ). contains n l)
     c.open_names-reader-items.ensures.names ∙ s.listed.live n live in
     let none = ap (λ (l : List Searched). length l) c.new-found.ensures.items in
     record {
@@ -46,7 +46,7 @@ loop-reader-init c =
     }
 
 pub search-requires : goal.search-requires
-search-requires c = subst (λ (l : List Searched). AreSearched (ids_of c.args.family.now.members.items) c.args.order.now
+search-requires c = subst (λ (l : List Searched). AreSearched (ids_of c.args.family.now.members) c.args.order.now
     c.args.family.now.held l) (sym c.deref.ensures.value) c.loop-reader.invariant.found
 
 pub loop-reader-preserved : goal.loop-reader-preserved
@@ -54,7 +54,7 @@ loop-reader-preserved c =
     let items = c.open_names-reader-items.result.now in
     let at = c.loop-reader.reader-index in
     let reader = slice_index_or items at 0 in
-    let f = ids_of c.args.family.now.members.items in
+    let f = ids_of c.args.family.now.members in
     let held = c.args.family.now.held in
     let inv = c.loop-reader.invariant in
     let order = c.args.order.now in
@@ -113,7 +113,7 @@ returns-clause-read c = λ chain ids owned.
 pub returns-clause-few : goal.returns-clause-few
 returns-clause-few c =
     let items = c.open_names-reader-items.result.now in
-    let f = ids_of c.args.family.now.members.items in
+    let f = ids_of c.args.family.now.members in
     let end : length items ≤ c.loop-reader.reader-index = omega (arith, c.loop-reader-test.false) in
     let whole : live_count f.live (take c.loop-reader.reader-index items) ≡ live_count f.live c.args.family.now.held =
     ap (λ (l : List ℕ). live_count f.live l)

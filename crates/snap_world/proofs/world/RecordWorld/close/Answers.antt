@@ -8,8 +8,8 @@ use Rattle.snap_world.proofs.world.RecordWorld.close.Goals as goal
 pub invariant_of-self : goal.invariant_of-self
 invariant_of-self g c =
     let old = c.args.self.now in
-    let ms = old.family.members.items in
-    let many : length c.close_disposed.new.self.members.items ≡ length ms =
+    let ms = old.family.members in
+    let many : length c.close_disposed.new.self.members ≡ length ms =
     ap (λ (l : List Member). length l) c.close_disposed.ensures.ok
     ∙ closed_count ms old.family.handed c.args.name old.family.sound c.requires.live in
     record {
@@ -23,8 +23,8 @@ invariant_of-self g c =
 pub returns : goal.returns
 returns g c =
     let old = c.args.self.now in
-    let ms = old.family.members.items in
-    let e : c.close_disposed.new.self.members.items ≡ members_after_close ms c.args.name =
+    let ms = old.family.members in
+    let e : c.close_disposed.new.self.members ≡ members_after_close ms c.args.name =
     c.close_disposed.ensures.ok in
     let stays = closed_stays ms old.family.handed c.args.name old.family.sound c.requires.live in
     record {
@@ -33,15 +33,15 @@ returns g c =
         objects = refl;
         names = ap (λ (l : List Member). length l) e
             ∙ closed_count ms old.family.handed c.args.name old.family.sound c.requires.live;
-        owner = λ n. ap (λ (l : List Member). (member l n).owner) e ∙ (stays n).0;
-        kind = λ n. ap (λ (l : List Member). (member l n).kind) e ∙ (stays n).1;
+        owner = λ n live. ap (λ (l : List Member). (member l n).owner) e ∙ (stays n).0;
+        kind = λ n live. ap (λ (l : List Member). (member l n).kind) e ∙ (stays n).1;
         stamps = refl;
         watchers = refl;
       };
       handed = c.close_disposed.ensures.handed;
       ids = subst (λ (l : List Member). Disposes (ids_of ms) (ids_of l) c.args.name) (sym e)
           (disposes_closed ms c.args.name (live_member ms c.args.name c.requires.live));
-      dated = dated c.close_disposed.new.self.members.items;
+      dated = dated c.close_disposed.new.self.members;
       chains = refl;
       noted = refl;
     }

@@ -13,7 +13,7 @@ use Rattle.snap_world.proofs.world.RecordWorld.compare.Goals as goal
 
 pub returns-in-Some-clause-is : goal.returns-in-Some-clause-is
 returns-in-Some-clause-is g c =
-    let m : Member = member c.args.self.now.family.members.items c.args.name in
+    let m : Member = member c.args.self.now.family.members c.args.name in
     let q : Rec = record_at c.args.self.now.chains c.in-Some.record.0 in
     let chain : List Rec = chain_of c.args.self.now.chains c.args.object in
     let found : Some q ≡ readable (is_valid c.id.result c.invalid.result.now) chain = c.in-Some.ensures.is in
@@ -33,7 +33,7 @@ returns-in-Some-clause-is g c =
 
 pub returns-in-None-clause-none : goal.returns-in-None-clause-none
 returns-in-None-clause-none g c =
-    let m : Member = member c.args.self.now.family.members.items c.args.name in
+    let m : Member = member c.args.self.now.family.members c.args.name in
     let chain : List Rec = chain_of c.args.self.now.chains c.args.object in
     let found : None ≡ readable (is_valid c.id.result c.invalid.result.now) chain = c.in-None.ensures.is in
     let at_id : None ≡ readable (is_valid m.id c.invalid.result.now) chain =

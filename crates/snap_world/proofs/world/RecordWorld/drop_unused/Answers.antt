@@ -33,14 +33,14 @@ returns g c = λ w s.
         clock = refl;
         objects = refl;
         names = c.drop_unused.ensures.count;
-        owner = λ n. ap (λ (m : Member). m.owner) (each n);
-        kind = λ n. ap (λ (m : Member). m.kind) (each n);
+        owner = λ n live. ap (λ (m : Member). m.owner) (each n);
+        kind = λ n live. ap (λ (m : Member). m.kind) (each n);
         stamps = refl;
         watchers = refl;
       };
       handed = c.drop_unused.ensures.handed;
       ids = c.drop_unused.ensures.ids;
-      dated = dated c.drop_unused.new.self.members.items;
+      dated = dated c.drop_unused.new.self.members;
       chains = refl;
       noted = refl;
     })

@@ -1,10 +1,11 @@
-use Rattle.std.proofs.Common.{◌≡◌, ℕ, ◌+◌, ◌≤◌, List, [], length, take, sym, ap, ◌∙◌, subst, Option, Bool, true, arith}
+use Rattle.std.proofs.Common.{◌≡◌, ℕ, ◌+◌, ◌≤◌, List, length, take, sym, ap, ◌∙◌, subst, Option, Bool, true, arith}
 use Rattle.std.proofs.lemmas.List.{take_all}
 use Rattle.std.specs.Prelude.{slice_index_or}
 use Rattle.rt_values.specs.Maps.{contains}
 use Rattle.snap_ids.proofs.IdLists.{contains-at}
 use Rattle.snap_api.specs.Choices.{is_clash}
 use Rattle.snap_laws.specs.Applies.{choice_at}
+use Rattle.snap_world.specs.Noting.{noted_of}
 use Rattle.snap_world.specs.Choices.{IsLeast}
 use Rattle.snap_world.specs.Holding.{world_parts}
 use Rattle.snap_world.proofs.Settled.{least_more}
@@ -14,9 +15,8 @@ pub returns-then-x-len-clause-free : goal.returns-then-x-len-clause-free
 returns-then-x-len-clause-free g c = λ w s inner free.
     let items = c.noted-x-items.result.now in
     let x : ℕ = slice_index_or items c.loop-x.x-index 0 in
-    let eq : items ≡ slice_index_or c.args.self.now.wrote.items c.args.name [] = c.noted-x-items.ensures
-    ∙ ap (λ (l : List (List ℕ)). slice_index_or l c.args.name []) c.deref.ensures.value in
-    let listed : contains x (slice_index_or c.args.self.now.wrote.items c.args.name []) ≡ true =
+    let eq : items ≡ noted_of c.args.self.now.wrote c.args.name = c.noted-x-items.ensures in
+    let listed : contains x (noted_of c.args.self.now.wrote c.args.name) ≡ true =
     ap (λ (l : List ℕ). contains x l) (sym eq) ∙ contains-at items c.loop-x.x-index c.loop-x-test.true in
     absurd (omega (
       arith,
@@ -30,9 +30,8 @@ pub returns-in_default-clause-free : goal.returns-in_default-clause-free
 returns-in_default-clause-free g c = λ w s inner free.
     let items = c.noted-x-items.result.now in
     let x : ℕ = slice_index_or items c.loop-x.x-index 0 in
-    let eq : items ≡ slice_index_or c.args.self.now.wrote.items c.args.name [] = c.noted-x-items.ensures
-    ∙ ap (λ (l : List (List ℕ)). slice_index_or l c.args.name []) c.deref.ensures.value in
-    let listed : contains x (slice_index_or c.args.self.now.wrote.items c.args.name []) ≡ true =
+    let eq : items ≡ noted_of c.args.self.now.wrote c.args.name = c.noted-x-items.ensures in
+    let listed : contains x (noted_of c.args.self.now.wrote c.args.name) ≡ true =
     ap (λ (l : List ℕ). contains x l) (sym eq) ∙ contains-at items c.loop-x.x-index c.loop-x-test.true in
     c.in_default.ensures.free w s inner (free x listed)
 
@@ -50,7 +49,6 @@ returns-clause-is g c =
     let items = c.noted-x-items.result.now in
     let test : ℕ → Bool = λ x. is_clash (choice_at g.P.Policy.rules (world_parts c.args.self.now) c.args.name c.args.into
     x) in
-    let eq : items ≡ slice_index_or c.args.self.now.wrote.items c.args.name [] = c.noted-x-items.ensures
-    ∙ ap (λ (l : List (List ℕ)). slice_index_or l c.args.name []) c.deref.ensures.value in
+    let eq : items ≡ noted_of c.args.self.now.wrote c.args.name = c.noted-x-items.ensures in
     let end : length items ≤ c.loop-x.x-index = omega (arith, c.loop-x-test.false) in
     subst (λ (l : List ℕ). IsLeast test l c.loop-x.least) (take_all c.loop-x.x-index items end ∙ eq) c.loop-x.invariant

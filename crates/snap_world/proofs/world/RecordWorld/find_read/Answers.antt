@@ -13,7 +13,7 @@ use Rattle.snap_world.proofs.world.RecordWorld.find_read.Goals as goal
 
 pub returns-in_default-clause-none : goal.returns-in_default-clause-none
 returns-in_default-clause-none g c = λ w s inner.
-    let m : Member = member c.args.self.now.family.members.items c.args.name in
+    let m : Member = member c.args.self.now.family.members c.args.name in
     let chain : List Rec = chain_of c.args.self.now.chains c.args.object in
     read_none (is_valid_except m.ids m.id m.invalid) chain _
     (ap (λ o. option_map (λ b. record_at c.args.self.now.chains b.0) o) (sym c.in_default.is)
@@ -26,7 +26,7 @@ returns-in_default-clause-none g c = λ w s inner.
 
 pub returns-in_default-readable-clause-none : goal.returns-in_default-readable-clause-none
 returns-in_default-readable-clause-none g c = λ w s inner.
-    let m : Member = member c.args.self.now.family.members.items c.args.into in
+    let m : Member = member c.args.self.now.family.members c.args.into in
     let chain : List Rec = chain_of c.args.self.now.chains c.args.object in
     read_none (is_valid m.id m.invalid) chain _
     (c.in_default-readable.ensures.is
@@ -36,7 +36,7 @@ returns-in_default-readable-clause-none g c = λ w s inner.
 
 pub returns-in_default-0₀-clause-none : goal.returns-in_default-0₀-clause-none
 returns-in_default-0₀-clause-none g c = λ w s inner.
-    let m : Member = member c.args.self.now.family.members.items c.args.name in
+    let m : Member = member c.args.self.now.family.members c.args.name in
     let chain : List Rec = chain_of c.args.self.now.chains c.args.object in
     read_none (is_valid m.id m.invalid) chain _
     (ap (λ o. option_map (λ b. record_at c.args.self.now.chains b.0) o) (sym c.in_default-0₀.is)
@@ -47,8 +47,8 @@ returns-in_default-0₀-clause-none g c = λ w s inner.
 
 pub returns-clause-is : goal.returns-clause-is
 returns-clause-is g c =
-    let m : Member = member c.args.self.now.family.members.items c.args.name in
-    let p : Member = member c.args.self.now.family.members.items c.args.into in
+    let m : Member = member c.args.self.now.family.members c.args.name in
+    let p : Member = member c.args.self.now.family.members c.args.into in
     let chain : List Rec = chain_of c.args.self.now.chains c.args.object in
     record {
       previous = entry_found (is_valid_except m.ids m.id m.invalid) chain

@@ -13,9 +13,9 @@ returns g c =
     record {
       root = free 1 (more 1 (c.in_ok-add_record_ids.ensures.more 1
           (ap (λ (l : List ℕ). contains 1 l) c.in_ok-used.ensures)));
-      first = λ n i own. free (member c.args.self.now.family.members.items n).first
+      first = λ n i own. free (member c.args.self.now.family.members n).first
           (c.in_ok-add_ends.ensures.first n i own);
-      current = λ n live. free (member c.args.self.now.family.members.items n).id
+      current = λ n live. free (member c.args.self.now.family.members n).id
           (c.in_ok-add_ends.ensures.current n live);
       unwritten = λ x p there positive. free p.id (more p.id (c.in_ok-add_record_ids.ensures.all x p there));
     }

@@ -9,21 +9,21 @@ pub forget-requires : goal.forget-requires
 forget-requires g c =
     let f = c.loop-next.self.family in
     record {
-      there = subst (λ (o : Option ℕ). IfSome o (λ n. n < length f.members.items)) c.in-Some.is
+      there = subst (λ (o : Option ℕ). IfSome o (λ n. n < length f.members)) c.in-Some.is
           c.loop-next.invariant.within;
-      free = subst (λ (o : Option ℕ). IfSome o (λ n. is_free f.members.items (member f.members.items n) ≡ true))
+      free = subst (λ (o : Option ℕ). IfSome o (λ n. is_free f.members (member f.members n) ≡ true))
           c.in-Some.is c.loop-next.invariant.free;
     }
 
 pub loop-next-smaller : goal.loop-next-smaller
 loop-next-smaller g c =
     let f = c.loop-next.self.family in
-    let free = subst (λ (o : Option ℕ). IfSome o (λ n. is_free f.members.items (member f.members.items n) ≡ true))
+    let free = subst (λ (o : Option ℕ). IfSome o (λ n. is_free f.members (member f.members n) ≡ true))
     c.in-Some.is c.loop-next.invariant.free in
     omega (
       arith,
       ap (λ (l : List ℕ). length l) c.forget.ensures.held,
-      shorter c.in-Some.name f.held (free_open f.held f.members.items c.in-Some.name f.listed free),
+      shorter c.in-Some.name f.held (free_open f.held f.members c.in-Some.name f.listed free),
     )
 
 pub loop-next-preserved : goal.loop-next-preserved
@@ -36,5 +36,5 @@ loop-next-preserved g c = record {
 
 pub returns-clause-none : goal.returns-clause-none
 returns-clause-none g c = subst (λ (o : Option ℕ). IfNone o ((n : ℕ)
-    → is_free c.loop-next.self.family.members.items (member c.loop-next.self.family.members.items n) ≡ false))
+    → is_free c.loop-next.self.family.members (member c.loop-next.self.family.members n) ≡ false))
     c.in_default.is c.loop-next.invariant.none

@@ -9,9 +9,9 @@ use Rattle.snap_world.proofs.world.RecordWorld.forget_all.Given as goal
 abbrev pub invariant-loop-next : goal.invariant-loop-next
 invariant-loop-next g l = record {
   stays : (w : World _) → Represents (world_parts l.initial.self) w → Represents (world_parts l.self) w;
-  within : IfSome l.next (λ n. n < length l.self.family.members.items);
-  free : IfSome l.next (λ n. is_free l.self.family.members.items (member l.self.family.members.items n) ≡ true);
-  none : IfNone l.next ((n : ℕ) → is_free l.self.family.members.items (member l.self.family.members.items n) ≡ false);
+  within : IfSome l.next (λ n. n < length l.self.family.members);
+  free : IfSome l.next (λ n. is_free l.self.family.members (member l.self.family.members n) ≡ true);
+  none : IfNone l.next ((n : ℕ) → is_free l.self.family.members (member l.self.family.members n) ≡ false);
 }
 
 abbrev pub decreases-loop-next : goal.decreases-loop-next

@@ -8,14 +8,14 @@ use Rattle.snap_world.proofs.world.RecordWorld.push_child.Goals as goal
 
 pub returns-in_default-clause-err : goal.returns-in_default-clause-err
 returns-in_default-clause-err g c =
-    let e : c.take.new.self.members.items ≡ c.args.self.now.family.members.items = c.in_default.ensures.err in
+    let e : c.take.new.self.members ≡ c.args.self.now.family.members = c.in_default.ensures.err in
     record {
       same = record {
         clock = refl;
         objects = refl;
         names = ap (λ (l : List Member). length l) e;
-        owner = λ n. ap (λ (l : List Member). (member l n).owner) e;
-        kind = λ n. ap (λ (l : List Member). (member l n).kind) e;
+        owner = λ n live. ap (λ (l : List Member). (member l n).owner) e;
+        kind = λ n live. ap (λ (l : List Member). (member l n).kind) e;
         stamps = refl;
         watchers = refl;
       };
@@ -28,7 +28,7 @@ returns-in_default-clause-err g c =
 pub invariant_of-self : goal.invariant_of-self
 invariant_of-self g c =
     let old = c.args.self.now in
-    let many : length c.take.new.self.members.items ≡ length old.family.members.items =
+    let many : length c.take.new.self.members ≡ length old.family.members =
     ap (λ (l : List Member). length l) c.in_default.ensures.err in
     record {
       in_time = old.in_time;
@@ -41,10 +41,10 @@ invariant_of-self g c =
 pub invariant_of-self-2 : goal.invariant_of-self-2
 invariant_of-self-2 g c =
     let old = c.args.self.now in
-    let e : c.take.new.self.members.items ≡ members_after_advance (members_after_enter old.family.members.items old.family.handed c.args.parent c.args.kind c.args.caller) (old.family.handed + 1) c.args.parent = c.in-Ok.ensures.ok in
-    let many : length c.take.new.self.members.items ≡ length old.family.members.items + 1 =
+    let e : c.take.new.self.members ≡ members_after_advance (members_after_enter old.family.members old.family.handed c.args.parent c.args.kind c.args.caller) (old.family.handed + 1) c.args.parent = c.in-Ok.ensures.ok in
+    let many : length c.take.new.self.members ≡ length old.family.members + 1 =
     ap (λ (ms : List Member). length ms) e
-    ∙ taken_count old.family.members.items old.family.handed c.args.parent c.args.kind c.args.caller
+    ∙ taken_count old.family.members old.family.handed c.args.parent c.args.kind c.args.caller
     old.family.sound c.requires.live in
     record {
       in_time = omega (arith, c.requires.room);
@@ -56,12 +56,12 @@ invariant_of-self-2 g c =
 
 pub returns-clause-ok : goal.returns-clause-ok
 returns-clause-ok g c =
-    let ms = c.args.self.now.family.members.items in
+    let ms = c.args.self.now.family.members in
     let handed = c.args.self.now.family.handed in
     let parent = c.args.parent in
     let a = c.args.self.now.family.sound in
     let up = c.requires.live in
-    let e : c.take.new.self.members.items ≡ members_after_advance (members_after_enter ms handed parent c.args.kind c.args.caller) (handed + 1) parent = c.in-Ok.ensures.ok in
+    let e : c.take.new.self.members ≡ members_after_advance (members_after_enter ms handed parent c.args.kind c.args.caller) (handed + 1) parent = c.in-Ok.ensures.ok in
     record {
       named = c.in-Ok.ensures.name;
       between = ids_of (members_after_enter ms handed parent c.args.kind c.args.caller);
@@ -78,7 +78,7 @@ returns-clause-ok g c =
             (members_entered ms handed parent c.args.kind c.args.caller a up)
             (up_entered ms handed parent c.args.kind c.args.caller a up));
         dated_between = dated (members_after_enter ms handed parent c.args.kind c.args.caller);
-        dated = dated c.take.new.self.members.items;
+        dated = dated c.take.new.self.members;
         owner = ap (λ (l : List Member). (member l (length ms)).owner) e
             ∙ ap (λ (m : Member). m.owner) (taken_new ms handed parent c.args.kind c.args.caller a up);
         kind_is = ap (λ (l : List Member). (member l (length ms)).kind) e

@@ -2,6 +2,7 @@ use Rattle.std.proofs.Common.{◌≤◌, length, arith}
 use Rattle.snap_laws.specs.Coverage.{used_count}
 use Rattle.snap_laws.proofs.Counting.{used_within}
 use Rattle.snap_laws.proofs.Written.{writes_stand}
+use Rattle.snap_ids.proofs.Booleans.{and_seen}
 use Rattle.snap_world.specs.Holding.{world_parts}
 use Rattle.snap_world.proofs.Reading.{on_ok_more}
 use Rattle.snap_world.proofs.Searching.{owned_records}
@@ -22,3 +23,14 @@ returns-clause-swept g c = on_ok_more c.put_record.result (λ swept w s.
       names_live = c.in-Ok.ensures.names;
       few = omega (arith, few, c.in-Ok.ensures.few);
     }) c.put_record.ensures.swept
+
+pub returns-clause-spared : goal.returns-clause-spared
+returns-clause-spared g c = on_ok_more c.put_record.result (λ written w s.
+    let t = written w s in
+    record {
+      views = λ n e live other r. t.put.kept r.rec r.there
+          ((s.kept.dated.by n r.rec.id live r.valid).0) (t.view_stays n e live other r);
+      bases = λ n e live inner r. t.put.kept r.rec r.there
+          ((s.kept.dated.by n r.rec.id live (and_seen ((world_parts c.args.self.now).ids.sees n r.rec.id)
+          ((world_parts c.args.self.now).ids.owns n r.rec.id) r.valid).0).0) (t.base_stays n e live inner r);
+    }) c.put_record.ensures.ok

@@ -28,8 +28,8 @@ unchanged h objects chains stamps same_objects same_chains same_stamps = record 
     clock = refl;
     objects = same_objects;
     names = refl;
-    owner = λ n. refl;
-    kind = λ n. refl;
+    owner = λ n live. refl;
+    kind = λ n live. refl;
     stamps = same_stamps;
     watchers = refl;
   };

@@ -1,5 +1,5 @@
-use Rattle.std.proofs.Common.{◌≡◌, ◌≢◌, ℕ, ◌+◌, ◌==◌, ◌||◌, ◌&&◌, nat_lt, List, [], length, ap, ◌∙◌, subst, arith, refl, Bool, true, false, cond, length-set}
-use Rattle.std.specs.Prelude.{slice_index_or, slice_set}
+use Rattle.std.proofs.Common.{◌≡◌, ◌≢◌, ℕ, ◌+◌, ◌==◌, ◌||◌, ◌&&◌, nat_lt, List, length, ap, ◌∙◌, subst, arith, refl, Bool, true, false, cond, length-set}
+use Rattle.std.specs.Prelude.{slice_set}
 use Rattle.rt_values.specs.Maps.{contains, with_member}
 use Rattle.rt_values.specs.declared.maps.StampedValue.{StampedValue}
 use Rattle.snap_records.specs.Records.{Puts}
@@ -8,6 +8,7 @@ use Rattle.snap_reuse.specs.Readers.{is_unkept}
 use Rattle.snap_nested.specs.Members.{member}
 use Rattle.snap_nested.proofs.Members.{live_member}
 use Rattle.snap_laws.proofs.Reuse.{view_stays, base_stays}
+use Rattle.snap_world.specs.Noting.{noted_of}
 use Rattle.snap_world.proofs.NotedMembers.{contains-noted, undone}
 use Rattle.snap_world.proofs.Searching.{owned_records}
 use Rattle.snap_world.proofs.world.RecordWorld.put_record.Goals as goal
@@ -19,7 +20,7 @@ invariant_of-self g c = let old = c.args.self.now in
       few = old.few;
       many = old.many;
       stamped = old.stamped;
-      blank = λ n past. c.fill.ensures.same n ∙ old.blank n past;
+      blank = λ n past. c.add.ensures.same n ∙ old.blank n past;
     }
 
 pub returns-in_default-clause-err : goal.returns-in_default-clause-err
@@ -28,15 +29,15 @@ returns-in_default-clause-err g c = record {
     clock = refl;
     objects = refl;
     names = refl;
-    owner = λ n. refl;
-    kind = λ n. refl;
+    owner = λ n live. refl;
+    kind = λ n live. refl;
     stamps = refl;
     watchers = refl;
   };
   handed = refl;
   ids = refl;
   chains = λ x. refl;
-  noted = λ n x. ap (λ (l : List ℕ). contains x l) (c.fill.ensures.same n);
+  noted = λ n x. ap (λ (l : List ℕ). contains x l) (c.add.ensures.same n);
 }
 
 pub invariant_of-self-in_default-note_object : goal.invariant_of-self-in_default-note_object
@@ -46,7 +47,7 @@ invariant_of-self-in_default-note_object g c = let old = c.args.self.now in
       few = old.few;
       many = old.many;
       stamped = old.stamped;
-      blank = λ n past. c.in_default-note_object.ensures.err n ∙ c.fill.ensures.same n ∙ old.blank n past;
+      blank = λ n past. c.in_default-note_object.ensures.err n ∙ c.add.ensures.same n ∙ old.blank n past;
     }
 
 pub returns-in_default-note_object-clause-err : goal.returns-in_default-note_object-clause-err
@@ -55,50 +56,50 @@ returns-in_default-note_object-clause-err g c = record {
     clock = refl;
     objects = refl;
     names = refl;
-    owner = λ n. refl;
-    kind = λ n. refl;
+    owner = λ n live. refl;
+    kind = λ n live. refl;
     stamps = refl;
     watchers = refl;
   };
   handed = refl;
   ids = refl;
   chains = λ x. refl;
-  noted = λ n x. ap (λ (l : List ℕ). contains x l) (c.in_default-note_object.ensures.err n ∙ c.fill.ensures.same n);
+  noted = λ n x. ap (λ (l : List ℕ). contains x l) (c.in_default-note_object.ensures.err n ∙ c.add.ensures.same n);
 }
 
 pub invariant_of-self-in_default-put : goal.invariant_of-self-in_default-put
 invariant_of-self-in_default-put g c =
     let old = c.args.self.now in
     let u = c.unnote_object.ensures in
-    let same = undone c.fill.new.wrote.items c.note_object.new.wrote.items c.unnote_object.new.wrote.items c.args.name
+    let same = undone c.add.new.self c.note_object.new.wrote c.unnote_object.new.wrote c.args.name
     c.args.object c.in-Ok-note_object.is_new c.in-Ok-note_object.ensures.ok u.last u.kept u.others in
     record {
       in_time = old.in_time;
       few = old.few;
       many = c.put.ensures.many ∙ old.many;
       stamped = old.stamped;
-      blank = λ n past. same n ∙ c.fill.ensures.same n ∙ old.blank n past;
+      blank = λ n past. same n ∙ c.add.ensures.same n ∙ old.blank n past;
     }
 
 pub returns-in_default-put-clause-err : goal.returns-in_default-put-clause-err
 returns-in_default-put-clause-err g c =
     let u = c.unnote_object.ensures in
-    let same = undone c.fill.new.wrote.items c.note_object.new.wrote.items c.unnote_object.new.wrote.items c.args.name
+    let same = undone c.add.new.self c.note_object.new.wrote c.unnote_object.new.wrote c.args.name
     c.args.object c.in-Ok-note_object.is_new c.in-Ok-note_object.ensures.ok u.last u.kept u.others in
     record {
       same = record {
         clock = refl;
         objects = refl;
         names = refl;
-        owner = λ n. refl;
-        kind = λ n. refl;
+        owner = λ n live. refl;
+        kind = λ n live. refl;
         stamps = refl;
         watchers = refl;
       };
       handed = refl;
       ids = refl;
       chains = λ x. c.in_default-put.ensures.err x;
-      noted = λ n x. ap (λ (l : List ℕ). contains x l) (same n ∙ c.fill.ensures.same n);
+      noted = λ n x. ap (λ (l : List ℕ). contains x l) (same n ∙ c.add.ensures.same n);
     }
 
 pub invariant_of-self-2 : goal.invariant_of-self-2
@@ -112,8 +113,8 @@ invariant_of-self-2 g c =
           ∙ set_count (c.args.name == 0) old.stamps.items c.args.object (old.clock + 1) ∙ old.stamped;
       blank = λ n past.
           let other : n ≢ c.args.name =
-          λ same. omega (arith, same, past, live_member old.family.members.items c.args.name c.requires.live) in
-          c.in-Ok-note_object.ensures.ok.others n other ∙ c.fill.ensures.same n ∙ old.blank n past;
+          λ same. omega (arith, same, past, live_member old.family.members c.args.name c.requires.live) in
+          c.in-Ok-note_object.ensures.ok.others n other ∙ c.add.ensures.same n ∙ old.blank n past;
     } where
       set_count : (b : Bool) (xs : List ℕ) (i y : ℕ) → length (cond b (slice_set xs i y) xs) ≡ length xs
       set_count true xs i y = length-set xs i y
@@ -123,7 +124,7 @@ pub returns-clause-ok : goal.returns-clause-ok
 returns-clause-ok g c = λ w s.
     let old = c.args.self.now in
     let name = c.args.name in
-    let id : c.id-id.result ≡ (member old.family.members.items name).id = c.id-id.ensures.id in
+    let id : c.id-id.result ≡ (member old.family.members name).id = c.id-id.ensures.id in
     let put = c.in-Ok-put.ensures.ok (s.kept.chained.apart c.args.object) c.id-id.ensures.positive in
     let e : StampedValue = record { value = c.args.value; stamp = old.clock + 1 } in
     let noted = c.in-Ok-note_object.ensures.ok in
@@ -144,9 +145,9 @@ returns-clause-ok g c = λ w s.
       others = c.put.ensures.others;
       noted = λ y. ap (λ (l : List ℕ). contains y l)
           (noted.here ∙ ap (λ (l : List ℕ). cond (nat_lt 0 name) (with_member c.args.object l) l)
-          (c.fill.ensures.same name)) ∙ listed (nat_lt 0 name) y c.args.object
-          (slice_index_or old.wrote.items name []);
-      noted_others = λ n y other. ap (λ (l : List ℕ). contains y l) (noted.others n other ∙ c.fill.ensures.same n);
+          (c.add.ensures.same name)) ∙ listed (nat_lt 0 name) y c.args.object
+          (noted_of old.wrote name);
+      noted_others = λ n y other. ap (λ (l : List ℕ). contains y l) (noted.others n other ∙ c.add.ensures.same n);
       stamps = c.stamp_object.ensures;
     } where
       none : (b : Bool) → b ≡ (b || false)

@@ -1,7 +1,8 @@
 use Rattle.std.proofs.Common.{◌≡◌, ℕ, ◌≤◌, ◌<◌, List, [], ◌∷◌, ◌++◌, length, take, sym, ap, ◌∙◌, subst, arith, inl, inr}
 use Rattle.std.proofs.lemmas.List.{take_all, take_more, map-append}
-use Rattle.std.specs.Prelude.{slice_index_or, slice_get}
+use Rattle.std.specs.Prelude.{slice_get}
 use Rattle.snap_laws.specs.Applies.{choice_at}
+use Rattle.snap_world.specs.Noting.{noted_of}
 use Rattle.snap_world.specs.Choices.{objects_of, choice_of_settled}
 use Rattle.snap_world.specs.Holding.{world_parts}
 use Rattle.snap_world.specs.declared.settling.Settled.{Settled}
@@ -35,7 +36,6 @@ loop-x-preserved g c =
 pub returns-clause-objects : goal.returns-clause-objects
 returns-clause-objects g c =
     let items = c.noted-x-items.result.now in
-    let eq : items ≡ slice_index_or c.args.self.now.wrote.items c.args.name [] = c.noted-x-items.ensures
-    ∙ ap (λ (l : List (List ℕ)). slice_index_or l c.args.name []) c.deref.ensures.value in
+    let eq : items ≡ noted_of c.args.self.now.wrote c.args.name = c.noted-x-items.ensures in
     let end : length items ≤ c.loop-x.x-index = omega (arith, c.loop-x-test.false) in
     c.loop-x.invariant.objects ∙ take_all c.loop-x.x-index items end ∙ eq

@@ -11,7 +11,7 @@ use Rattle.snap_world.proofs.world.RecordWorld.shown.Goals as goal
 pub returns-clause-is : goal.returns-clause-is
 returns-clause-is g c =
     let s = c.args.self.now in
-    let m : Member = member s.family.members.items c.args.name in
+    let m : Member = member s.family.members c.args.name in
     let chain : List Rec = chain_of s.chains c.args.object in
     found_reads s.chains c.args.object m.id m.invalid c.readable.result
     (c.readable.ensures.is ∙ ap (λ (n : ℕ). readable (is_valid n c.invalid.result.now) chain) c.id.ensures.id
@@ -20,7 +20,7 @@ returns-clause-is g c =
 pub returns-clause-none : goal.returns-clause-none
 returns-clause-none g c =
     let s = c.args.self.now in
-    let m : Member = member s.family.members.items c.args.name in
+    let m : Member = member s.family.members c.args.name in
     let chain : List Rec = chain_of s.chains c.args.object in
     found_none s.chains c.args.object m.id m.invalid c.readable.result
     (c.readable.ensures.is ∙ ap (λ (n : ℕ). readable (is_valid n c.invalid.result.now) chain) c.id.ensures.id

@@ -1,11 +1,11 @@
 use Rattle.std.proofs.Common.{◌≡◌, ℕ, List, sym, ◌∙◌, subst, true, false, None, Option, Some}
-use Rattle.std.specs.Prelude.{slice_index_or, []}
 use Rattle.snap_api.specs.Choices.{is_clash}
 use Rattle.snap_laws.specs.Applies.{apply_refusal, choice_at, HasNoClash, IsLeastClash, Merges}
 use Rattle.snap_laws.specs.FreeRefusals.{IsMergeFree}
 use Rattle.snap_laws.proofs.FreeRefusals.{apply_not_refused, apply_conflicts}
 use Rattle.snap_laws.proofs.Merging.{pads_stand, applies_answer, apply_good}
 use Rattle.snap_laws.proofs.Takes.{like_itself, does_refused}
+use Rattle.snap_world.specs.Noting.{noted_of}
 use Rattle.snap_world.specs.Choices.{IsLeast}
 use Rattle.snap_world.specs.Holding.{world_parts, AreSettled}
 use Rattle.snap_world.specs.declared.settling.Settled.{Settled}
@@ -28,9 +28,9 @@ returns-in-Ok-Some-clause-call g c = λ w s.
     let rules = g.P.Policy.rules in
     let good : apply_refusal h c.args.caller c.args.name ≡ None = sym c.apply_refusal.ensures ∙ c.in_default.is in
     let into : c.parent-into.result ≡ h.ids.parent c.args.name = c.parent-into.ensures in
-    let l : IsLeast (λ x. is_clash (choice_at rules h c.args.name c.parent-into.result x)) (slice_index_or c.args.self.now.wrote.items c.args.name []) (Some c.in-Ok-Some.object) =
+    let l : IsLeast (λ x. is_clash (choice_at rules h c.args.name c.parent-into.result x)) (noted_of c.args.self.now.wrote c.args.name) (Some c.in-Ok-Some.object) =
     subst (λ (o : Option ℕ). IsLeast (λ x. is_clash (choice_at rules h c.args.name c.parent-into.result x))
-    (slice_index_or c.args.self.now.wrote.items c.args.name []) o) c.in-Ok-Some.field-0-is
+    (noted_of c.args.self.now.wrote c.args.name) o) c.in-Ok-Some.field-0-is
     c.in-Ok-Some.ensures.is in
     let clash : IsLeastClash rules h c.args.name (h.ids.parent c.args.name) c.in-Ok-Some.object =
     subst (λ (n : ℕ). IsLeastClash rules h c.args.name n c.in-Ok-Some.object) into
@@ -43,9 +43,9 @@ returns-in-Ok-Some-clause-refused g c = λ w s e is free.
     let rules = g.P.Policy.rules in
     let good : apply_refusal h c.args.caller c.args.name ≡ None = sym c.apply_refusal.ensures ∙ c.in_default.is in
     let into : c.parent-into.result ≡ h.ids.parent c.args.name = c.parent-into.ensures in
-    let l : IsLeast (λ x. is_clash (choice_at rules h c.args.name c.parent-into.result x)) (slice_index_or c.args.self.now.wrote.items c.args.name []) (Some c.in-Ok-Some.object) =
+    let l : IsLeast (λ x. is_clash (choice_at rules h c.args.name c.parent-into.result x)) (noted_of c.args.self.now.wrote c.args.name) (Some c.in-Ok-Some.object) =
     subst (λ (o : Option ℕ). IsLeast (λ x. is_clash (choice_at rules h c.args.name c.parent-into.result x))
-    (slice_index_or c.args.self.now.wrote.items c.args.name []) o) c.in-Ok-Some.field-0-is
+    (noted_of c.args.self.now.wrote c.args.name) o) c.in-Ok-Some.field-0-is
     c.in-Ok-Some.ensures.is in
     let clash : IsLeastClash rules h c.args.name (h.ids.parent c.args.name) c.in-Ok-Some.object =
     subst (λ (n : ℕ). IsLeastClash rules h c.args.name n c.in-Ok-Some.object) into
@@ -60,7 +60,7 @@ returns-in-Ok-None-clause-refused g c = λ w s e is free.
     let into : c.parent-into.result ≡ h.ids.parent c.args.name = c.parent-into.ensures in
     let none : HasNoClash rules h c.args.name c.parent-into.result =
     subst (λ (o : Option ℕ). IsLeast (λ x. is_clash (choice_at rules h c.args.name c.parent-into.result x))
-    (slice_index_or c.args.self.now.wrote.items c.args.name []) o) c.in-Ok-None.field-0-is
+    (noted_of c.args.self.now.wrote c.args.name) o) c.in-Ok-None.field-0-is
     c.in-Ok-None.ensures.is in
     absurd (apply_not_refused rules s c.args.caller c.args.name good
     (subst (λ (n : ℕ). HasNoClash rules h c.args.name n) into none) e is)
@@ -78,7 +78,7 @@ returns-in-Ok-clause-call g c = λ w s.
     let into : c.parent-into.result ≡ h.ids.parent c.args.name = c.parent-into.ensures in
     let none : HasNoClash rules h c.args.name c.parent-into.result =
     none_clashes rules h c.args.name c.parent-into.result c.in-Some-settle.settled.items
-    (slice_index_or c.args.self.now.wrote.items c.args.name []) c.in-Some-settle.ensures.objects
+    (noted_of c.args.self.now.wrote c.args.name) c.in-Some-settle.ensures.objects
     c.in-Some-settle.ensures.each in
     let k = world_parts c.put_settled.new.self in
     (applies_answer rules h k w c.args.caller c.args.name s).2 good
@@ -93,7 +93,7 @@ returns-in-Ok-clause-refused g c = λ w s e is free.
     let into : c.parent-into.result ≡ h.ids.parent c.args.name = c.parent-into.ensures in
     let none : HasNoClash rules h c.args.name c.parent-into.result =
     none_clashes rules h c.args.name c.parent-into.result c.in-Some-settle.settled.items
-    (slice_index_or c.args.self.now.wrote.items c.args.name []) c.in-Some-settle.ensures.objects
+    (noted_of c.args.self.now.wrote c.args.name) c.in-Some-settle.ensures.objects
     c.in-Some-settle.ensures.each in
     absurd (apply_not_refused rules s c.args.caller c.args.name good
     (subst (λ (n : ℕ). HasNoClash rules h c.args.name n) into none) e is)
@@ -109,7 +109,7 @@ returns-clause-refused g c = λ w s e is free.
     let into : c.parent-into.result ≡ h.ids.parent c.args.name = c.parent-into.ensures in
     let none : HasNoClash rules h c.args.name c.parent-into.result =
     none_clashes rules h c.args.name c.parent-into.result c.in-Some-settle.settled.items
-    (slice_index_or c.args.self.now.wrote.items c.args.name []) c.in-Some-settle.ensures.objects
+    (noted_of c.args.self.now.wrote c.args.name) c.in-Some-settle.ensures.objects
     c.in-Some-settle.ensures.each in
     absurd (apply_not_refused rules s c.args.caller c.args.name good
     (subst (λ (n : ℕ). HasNoClash rules h c.args.name n) into none) e is)

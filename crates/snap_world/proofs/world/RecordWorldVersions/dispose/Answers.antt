@@ -1,4 +1,4 @@
-use Rattle.std.proofs.Common.{refl, Err, ◌≡◌, sym, ◌∙◌, None, Some, true}
+use Rattle.std.proofs.Common.{refl, Err, ◌≡◌, sym, ◌∙◌, None, Some, true, false}
 use Rattle.snap_laws.specs.Disposes.{dispose_refusal}
 use Rattle.snap_laws.proofs.Takes.{like_itself, does_refused}
 use Rattle.snap_laws.proofs.Closing.{disposes_answer}
@@ -33,3 +33,10 @@ pub returns-in-Some-clause-free : goal.returns-in-Some-clause-free
 returns-in-Some-clause-free g c = λ same. dispose_in_memory (world_parts c.args.self.now) c.args.caller c.args.name
     c.in-Some.refusal (sym c.dispose_refusal.ensures ∙ c.in-Some.is)
     (err_is c.in-Some.refusal _ (Err c.in-Some.refusal) refl same)
+
+pub returns-then-not-live-clause-call : goal.returns-then-not-live-clause-call
+returns-then-not-live-clause-call g c = λ w s.
+    let h = world_parts c.args.self.now in
+    let good : dispose_refusal h c.args.caller c.args.name ≡ None = sym c.dispose_refusal.ensures ∙ c.in_default.is in
+    let closed : h.ids.live c.args.name ≡ false = sym c.live.ensures ∙ c.if-not-live.true in
+    (disposes_answer g.P.Policy.rules h h w c.args.caller c.args.name s).1 good closed (like_itself _)
