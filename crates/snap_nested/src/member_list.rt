@@ -103,6 +103,7 @@ impl MemberList {
     }
 
     /// Returns the member of an open name. Uses binary search.
+    #[inline]
     pub fn get(&self, name: Name) -> Option<&Member>
         ensures some { IfSome result (λ m. m.now ≡ member self.now name) }
         ensures none { IfNone result (member self.now name ≡ no_member) }

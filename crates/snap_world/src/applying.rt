@@ -31,15 +31,15 @@ impl<P: Policy> RecordWorld<P> {
         ensures is { IfSome result (AreRead self.now name into object) }
         ensures none { IfNone result ((w : World P) → Represents (world_parts self.now) w → 0 < name → ⊥) }
     {
-        let id = self.family.id(name);
-        let invalid = self.family.invalid(name);
-        let own = self.family.ids(name);
-        let both = self.chains.readable_both(object, id, invalid, own);
+        let member = self.family.member(name);
+        let both = self
+            .chains
+            .readable_both(object, member.id, &member.invalid, &member.ids);
         let Some(previous) = both.1 else {
             return None;
         };
-        let above = self.family.invalid(into);
-        let Some(current) = self.chains.readable(object, self.family.id(into), above) else {
+        let above = self.family.member(into);
+        let Some(current) = self.chains.readable(object, above.id, &above.invalid) else {
             return None;
         };
         let Some(applied) = both.0 else {

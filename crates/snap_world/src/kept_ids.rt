@@ -125,12 +125,8 @@ fn add_both_ids(
         → (contains i ids.old ≡ true) ⊎ IsNeeded (ids_of family.now.members) name (chain_of chains.now x) i) }
     ensures few { OnOk result (length ids.new ≤ length ids.old + 2) }
 {
-    let read = chains.readable_both(
-        x,
-        family.id(reader),
-        family.invalid(reader),
-        family.ids(reader),
-    );
+    let member = family.member(reader);
+    let read = chains.readable_both(x, member.id, &member.invalid, &member.ids);
     add_record_id(chains, read.0, ids)?;
     add_record_id(chains, read.1, ids)
 }
@@ -182,7 +178,8 @@ fn add_view_id(
     if reader == name {
         return Ok(());
     }
-    let found = chains.readable(x, family.id(reader), family.invalid(reader));
+    let member = family.member(reader);
+    let found = chains.readable(x, member.id, &member.invalid);
     add_record_id(chains, found, ids)
 }
 
@@ -206,12 +203,8 @@ fn add_base_id(
     if reader == 0 {
         return Ok(());
     }
-    let read = chains.readable_both(
-        x,
-        family.id(reader),
-        family.invalid(reader),
-        family.ids(reader),
-    );
+    let member = family.member(reader);
+    let read = chains.readable_both(x, member.id, &member.invalid, &member.ids);
     add_record_id(chains, read.1, ids)
 }
 

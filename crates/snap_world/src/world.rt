@@ -196,10 +196,8 @@ impl<P: Policy> RecordWorld<P> {
         ensures none { IfNone result ((e : StampedValue)
             → Reads ((world_parts self.now).ids.sees name) ((world_parts self.now).chains object) e → ⊥) }
     {
-        match self
-            .chains
-            .readable(object, self.family.id(name), self.family.invalid(name))
-        {
+        let member = self.family.member(name);
+        match self.chains.readable(object, member.id, &member.invalid) {
             Some(record) => {
                 let kept = &self.objects[object as usize];
                 Some(kept.policy.equivalent(self.chains.value(record), value))
@@ -444,8 +442,8 @@ impl<P: Policy> RecordWorld<P> {
         ensures none { IfNone result ((e : StampedValue)
             → Reads ((world_parts self.now).ids.sees name) ((world_parts self.now).chains object) e → ⊥) }
     {
-        self.chains
-            .readable(object, self.family.id(name), self.family.invalid(name))
+        let member = self.family.member(name);
+        self.chains.readable(object, member.id, &member.invalid)
     }
 
     // Returns the refusal of a make, if there is one.

@@ -14,9 +14,7 @@ returns-clause-base c =
     let chain = chain_of c.args.chains.now c.args.x in
     on_ok_more c.add_record_id.result
     (λ added inner. λ i h. added i (ap (has_id i) (c.readable_both-read.ensures.base
-    ∙ ap (λ (l : List ℕ). readable (is_valid_except l c.id.result c.invalid.result.now) chain) c.ids.ensures
-    ∙ ap (λ (n : ℕ). readable (is_valid_except m.ids n c.invalid.result.now) chain) c.id.ensures.id
-    ∙ ap (λ (l : List ℕ). readable (is_valid_except m.ids m.id l) chain) c.invalid.ensures) ∙ h))
+    ∙ ap (λ (o : Member). readable (is_valid_except o.ids o.id o.invalid) chain) c.member-member.ensures) ∙ h))
     c.add_record_id.ensures.added
 
 pub returns-clause-needed : goal.returns-clause-needed
@@ -27,9 +25,7 @@ returns-clause-needed c =
       | inl t ↦ inl t
       | inr t ↦ inr (base c.args.reader c.requires.live (positive c.args.reader c.if-reader-eq0.false)
           (sym (ap (has_id i) (c.readable_both-read.ensures.base
-          ∙ ap (λ (l : List ℕ). readable (is_valid_except l c.id.result c.invalid.result.now) chain) c.ids.ensures
-          ∙ ap (λ (n : ℕ). readable (is_valid_except m.ids n c.invalid.result.now) chain) c.id.ensures.id
-          ∙ ap (λ (l : List ℕ). readable (is_valid_except m.ids m.id l) chain) c.invalid.ensures)) ∙ t))
+          ∙ ap (λ (o : Member). readable (is_valid_except o.ids o.id o.invalid) chain) c.member-member.ensures)) ∙ t))
     ]) c.add_record_id.ensures.only where
       positive : (n : ℕ) → n ≢ 0 → 0 < n
       positive n other = omega (arith, other)

@@ -16,17 +16,14 @@ returns-clause-view c =
     on_ok_more c.add_record_id-2.result
     (λ added. λ i h. c.add_record_id-2.ensures.more i
     (c.in_ok-add_record_id.ensures.added i (ap (has_id i) (c.readable_both-read.ensures.view
-    ∙ ap (λ (n : ℕ). readable (is_valid n c.invalid.result.now) chain) c.id.ensures.id
-    ∙ ap (λ (l : List ℕ). readable (is_valid m.id l) chain) c.invalid.ensures) ∙ h))) c.add_record_id-2.ensures.added
+    ∙ ap (λ (o : Member). readable (is_valid o.id o.invalid) chain) c.member-member.ensures) ∙ h))) c.add_record_id-2.ensures.added
 
 pub returns-clause-base : goal.returns-clause-base
 returns-clause-base c =
     let m : Member = member c.args.family.now.members c.args.reader in
     let chain = chain_of c.args.chains.now c.args.x in
     on_ok_more c.add_record_id-2.result (λ added. λ i h. added i (ap (has_id i) (c.readable_both-read.ensures.base
-    ∙ ap (λ (l : List ℕ). readable (is_valid_except l c.id.result c.invalid.result.now) chain) c.ids.ensures
-    ∙ ap (λ (n : ℕ). readable (is_valid_except m.ids n c.invalid.result.now) chain) c.id.ensures.id
-    ∙ ap (λ (l : List ℕ). readable (is_valid_except m.ids m.id l) chain) c.invalid.ensures) ∙ h))
+    ∙ ap (λ (o : Member). readable (is_valid_except o.ids o.id o.invalid) chain) c.member-member.ensures) ∙ h))
     c.add_record_id-2.ensures.added
 
 pub returns-clause-needed : goal.returns-clause-needed
@@ -37,12 +34,9 @@ returns-clause-needed c =
       | inl t ↦ elim (c.in_ok-add_record_id.ensures.only i t) [
         | inl u ↦ inl u
         | inr u ↦ inr (view c.args.reader c.requires.live other (sym (ap (has_id i) (c.readable_both-read.ensures.view
-            ∙ ap (λ (n : ℕ). readable (is_valid n c.invalid.result.now) chain) c.id.ensures.id
-            ∙ ap (λ (l : List ℕ). readable (is_valid m.id l) chain) c.invalid.ensures)) ∙ u))
+            ∙ ap (λ (o : Member). readable (is_valid o.id o.invalid) chain) c.member-member.ensures)) ∙ u))
       ]
       | inr t ↦ inr (base c.args.reader c.requires.live c.requires.inner
           (sym (ap (has_id i) (c.readable_both-read.ensures.base
-          ∙ ap (λ (l : List ℕ). readable (is_valid_except l c.id.result c.invalid.result.now) chain) c.ids.ensures
-          ∙ ap (λ (n : ℕ). readable (is_valid_except m.ids n c.invalid.result.now) chain) c.id.ensures.id
-          ∙ ap (λ (l : List ℕ). readable (is_valid_except m.ids m.id l) chain) c.invalid.ensures)) ∙ t))
+          ∙ ap (λ (o : Member). readable (is_valid_except o.ids o.id o.invalid) chain) c.member-member.ensures)) ∙ t))
     ]) c.add_record_id-2.ensures.only

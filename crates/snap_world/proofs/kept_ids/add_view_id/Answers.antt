@@ -14,8 +14,7 @@ returns-clause-view c =
     let m : Member = member c.args.family.now.members c.args.reader in
     let chain = chain_of c.args.chains.now c.args.x in
     on_ok_more c.add_record_id.result (λ added other. λ i h. added i (ap (has_id i) (c.readable-found.ensures.is
-    ∙ ap (λ (n : ℕ). readable (is_valid n c.invalid.result.now) chain) c.id.ensures.id
-    ∙ ap (λ (l : List ℕ). readable (is_valid m.id l) chain) c.invalid.ensures) ∙ h)) c.add_record_id.ensures.added
+    ∙ ap (λ (o : Member). readable (is_valid o.id o.invalid) chain) c.member-member.ensures) ∙ h)) c.add_record_id.ensures.added
 
 pub returns-clause-needed : goal.returns-clause-needed
 returns-clause-needed c =
@@ -25,6 +24,5 @@ returns-clause-needed c =
       | inl t ↦ inl t
       | inr t ↦ inr (view c.args.reader c.requires.live c.if-reader-name.false
           (sym (ap (has_id i) (c.readable-found.ensures.is
-          ∙ ap (λ (n : ℕ). readable (is_valid n c.invalid.result.now) chain) c.id.ensures.id
-          ∙ ap (λ (l : List ℕ). readable (is_valid m.id l) chain) c.invalid.ensures)) ∙ t))
+          ∙ ap (λ (o : Member). readable (is_valid o.id o.invalid) chain) c.member-member.ensures)) ∙ t))
     ]) c.add_record_id.ensures.only

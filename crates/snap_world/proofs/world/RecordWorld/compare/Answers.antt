@@ -16,11 +16,9 @@ returns-in-Some-clause-is g c =
     let m : Member = member c.args.self.now.family.members c.args.name in
     let q : Rec = record_at c.args.self.now.chains c.in-Some.record.0 in
     let chain : List Rec = chain_of c.args.self.now.chains c.args.object in
-    let found : Some q ≡ readable (is_valid c.id.result c.invalid.result.now) chain = c.in-Some.ensures.is in
-    let at_id : Some q ≡ readable (is_valid m.id c.invalid.result.now) chain =
-    subst (λ (n : ℕ). Some q ≡ readable (is_valid n c.invalid.result.now) chain) c.id.ensures.id found in
     let at_both : Some q ≡ readable (is_valid m.id m.invalid) chain =
-    subst (λ (l : List ℕ). Some q ≡ readable (is_valid m.id l) chain) c.invalid.ensures at_id in
+    subst (λ (o : Member). Some q ≡ readable (is_valid o.id o.invalid) chain) c.member-member.ensures
+    c.in-Some.ensures.is in
     record {
       object = c.index-kept.result.now;
       there = slice_get_read c.args.self.now.objects.items (length c.args.self.now.objects.items) c.args.object
@@ -35,9 +33,7 @@ pub returns-in-None-clause-none : goal.returns-in-None-clause-none
 returns-in-None-clause-none g c =
     let m : Member = member c.args.self.now.family.members c.args.name in
     let chain : List Rec = chain_of c.args.self.now.chains c.args.object in
-    let found : None ≡ readable (is_valid c.id.result c.invalid.result.now) chain = c.in-None.ensures.is in
-    let at_id : None ≡ readable (is_valid m.id c.invalid.result.now) chain =
-    subst (λ (n : ℕ). None ≡ readable (is_valid n c.invalid.result.now) chain) c.id.ensures.id found in
     let at_both : None ≡ readable (is_valid m.id m.invalid) chain =
-    subst (λ (l : List ℕ). None ≡ readable (is_valid m.id l) chain) c.invalid.ensures at_id in
+    subst (λ (o : Member). None ≡ readable (is_valid o.id o.invalid) chain) c.member-member.ensures
+    c.in-None.ensures.is in
     λ e reads. read_none (is_valid m.id m.invalid) chain e at_both reads

@@ -18,10 +18,7 @@ returns-in_default-clause-none g c = λ w s inner.
     read_none (is_valid_except m.ids m.id m.invalid) chain _
     (ap (λ o. option_map (λ b. record_at c.args.self.now.chains b.0) o) (sym c.in_default.is)
     ∙ c.readable_both-both.ensures.base
-    ∙ ap (λ (l : List ℕ). readable (is_valid_except l c.id-id.result c.invalid-invalid.result.now) chain)
-    c.ids-own.ensures
-    ∙ ap (λ (n : ℕ). readable (is_valid_except m.ids n c.invalid-invalid.result.now) chain) c.id-id.ensures.id
-    ∙ ap (λ (l : List ℕ). readable (is_valid_except m.ids m.id l) chain) c.invalid-invalid.ensures)
+    ∙ ap (λ (o : Member). readable (is_valid_except o.ids o.id o.invalid) chain) c.member-member.ensures)
     (s.kept.shown.bases c.args.name c.args.object c.requires.live inner c.requires.there)
 
 pub returns-in_default-readable-clause-none : goal.returns-in_default-readable-clause-none
@@ -30,8 +27,7 @@ returns-in_default-readable-clause-none g c = λ w s inner.
     let chain : List Rec = chain_of c.args.self.now.chains c.args.object in
     read_none (is_valid m.id m.invalid) chain _
     (c.in_default-readable.ensures.is
-    ∙ ap (λ (n : ℕ). readable (is_valid n c.invalid-above.result.now) chain) c.id.ensures.id
-    ∙ ap (λ (l : List ℕ). readable (is_valid m.id l) chain) c.invalid-above.ensures)
+    ∙ ap (λ (o : Member). readable (is_valid o.id o.invalid) chain) c.member-above.ensures)
     (s.kept.shown.views c.args.into c.args.object c.requires.above c.requires.there)
 
 pub returns-in_default-0₀-clause-none : goal.returns-in_default-0₀-clause-none
@@ -41,8 +37,7 @@ returns-in_default-0₀-clause-none g c = λ w s inner.
     read_none (is_valid m.id m.invalid) chain _
     (ap (λ o. option_map (λ b. record_at c.args.self.now.chains b.0) o) (sym c.in_default-0₀.is)
     ∙ c.readable_both-both.ensures.view
-    ∙ ap (λ (n : ℕ). readable (is_valid n c.invalid-invalid.result.now) chain) c.id-id.ensures.id
-    ∙ ap (λ (l : List ℕ). readable (is_valid m.id l) chain) c.invalid-invalid.ensures)
+    ∙ ap (λ (o : Member). readable (is_valid o.id o.invalid) chain) c.member-member.ensures)
     (s.kept.shown.views c.args.name c.args.object c.requires.live c.requires.there)
 
 pub returns-clause-is : goal.returns-clause-is
@@ -55,20 +50,15 @@ returns-clause-is g c =
           (record_at c.args.self.now.chains c.in-Some.previous.0)
           (ap (λ o. option_map (λ b. record_at c.args.self.now.chains b.0) o) (sym c.in-Some.is)
           ∙ c.readable_both-both.ensures.base
-          ∙ ap (λ (l : List ℕ). readable (is_valid_except l c.id-id.result c.invalid-invalid.result.now) chain)
-          c.ids-own.ensures
-          ∙ ap (λ (n : ℕ). readable (is_valid_except m.ids n c.invalid-invalid.result.now) chain) c.id-id.ensures.id
-          ∙ ap (λ (l : List ℕ). readable (is_valid_except m.ids m.id l) chain) c.invalid-invalid.ensures);
+          ∙ ap (λ (o : Member). readable (is_valid_except o.ids o.id o.invalid) chain) c.member-member.ensures);
       current = entry_found (is_valid p.id p.invalid) chain
           (record_at c.args.self.now.chains c.in-Some-readable.current.0)
           (c.in-Some-readable.ensures.is
-          ∙ ap (λ (n : ℕ). readable (is_valid n c.invalid-above.result.now) chain) c.id.ensures.id
-          ∙ ap (λ (l : List ℕ). readable (is_valid p.id l) chain) c.invalid-above.ensures);
+          ∙ ap (λ (o : Member). readable (is_valid o.id o.invalid) chain) c.member-above.ensures);
       applied = entry_found (is_valid m.id m.invalid) chain (record_at c.args.self.now.chains c.in-Some-0₀.applied.0)
           (ap (λ o. option_map (λ b. record_at c.args.self.now.chains b.0) o) (sym c.in-Some-0₀.is)
           ∙ c.readable_both-both.ensures.view
-          ∙ ap (λ (n : ℕ). readable (is_valid n c.invalid-invalid.result.now) chain) c.id-id.ensures.id
-          ∙ ap (λ (l : List ℕ). readable (is_valid m.id l) chain) c.invalid-invalid.ensures);
+          ∙ ap (λ (o : Member). readable (is_valid o.id o.invalid) chain) c.member-member.ensures);
       previous_there = subst (λ o. IfSome o (λ b. IsSome (get c.args.self.now.chains.slots b.0))) c.in-Some.is
           c.readable_both-both.ensures.base_there;
       current_there = c.in-Some-readable.ensures.there;

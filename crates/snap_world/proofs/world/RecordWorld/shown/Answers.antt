@@ -14,8 +14,7 @@ returns-clause-is g c =
     let m : Member = member s.family.members c.args.name in
     let chain : List Rec = chain_of s.chains c.args.object in
     found_reads s.chains c.args.object m.id m.invalid c.readable.result
-    (c.readable.ensures.is ∙ ap (λ (n : ℕ). readable (is_valid n c.invalid.result.now) chain) c.id.ensures.id
-    ∙ ap (λ (l : List ℕ). readable (is_valid m.id l) chain) c.invalid.ensures)
+    (c.readable.ensures.is ∙ ap (λ (o : Member). readable (is_valid o.id o.invalid) chain) c.member-member.ensures)
 
 pub returns-clause-none : goal.returns-clause-none
 returns-clause-none g c =
@@ -23,5 +22,4 @@ returns-clause-none g c =
     let m : Member = member s.family.members c.args.name in
     let chain : List Rec = chain_of s.chains c.args.object in
     found_none s.chains c.args.object m.id m.invalid c.readable.result
-    (c.readable.ensures.is ∙ ap (λ (n : ℕ). readable (is_valid n c.invalid.result.now) chain) c.id.ensures.id
-    ∙ ap (λ (l : List ℕ). readable (is_valid m.id l) chain) c.invalid.ensures)
+    (c.readable.ensures.is ∙ ap (λ (o : Member). readable (is_valid o.id o.invalid) chain) c.member-member.ensures)
