@@ -26,4 +26,6 @@ mod replays;
 #[cfg(test)]
 mod runs;
 #[cfg(test)]
+mod short_reads;
+#[cfg(test)]
 mod turns;
