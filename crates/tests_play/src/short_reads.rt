@@ -6,9 +6,7 @@ use lang_checks::Checked;
 use node_tree::UnitApplier;
 use recomposer::{Composition, FrameStop};
 use rt_groups::Report;
-use rt_values::{
-    Caller, Kind, Name, NoMemory, ObjectNo, Objects, Steps, Ty, Value, WatcherNo,
-};
+use rt_values::{Caller, Kind, Name, NoMemory, ObjectNo, Objects, Steps, Ty, Value, WatcherNo};
 use snap_api::{OwnDesk, Refusal, Versions};
 use snap_plain::PlainWorld;
 use snap_policy::BuiltIn;
@@ -202,11 +200,13 @@ fn frame_is_made_again(alloc: Global, composition: &mut Composition) -> Result<b
         && first.asked.numbers() == [0].as_slice()
         && composition.next() == 1;
     let second = frame(alloc, composition, &mut world)?;
-    Ok(is_short
-        && second.changed == 0
-        && second.result.is_ok_and(|report| report == FIRST)
-        && second.asked.numbers() == [0, 1].as_slice()
-        && composition.next() == 2)
+    Ok(
+        is_short
+            && second.changed == 0
+            && second.result.is_ok_and(|report| report == FIRST)
+            && second.asked.numbers() == [0, 1].as_slice()
+            && composition.next() == 2,
+    )
 }
 
 // Makes the two frames in a new composition.
