@@ -5,9 +5,7 @@ use Rattle.rt_values.specs.Maps.{Map}
 use Rattle.rt_groups.specs.GroupForest.{End}
 use Rattle.lang_ast.specs.Terms.{Func}
 use Rattle.lang_ast.specs.SyntaxView.{function_view, functions_view, stmt_view, stmts_view}
-use Rattle.lang_ast.specs.Programs.{statement_with_inner, statements_in, functions_statements}
 use Rattle.lang_ast.specs.Evaluation.{Bindings}
-use Rattle.lang_ast.proofs.Statements.{each_apart}
 use Rattle.lang_ast.specs.declared.syntax.Parameter.{Parameter}
 use Rattle.lang_ast.specs.declared.syntax.Function.{Function}
 use Rattle.lang_ast.specs.declared.syntax.Statement.{Statement}
@@ -17,6 +15,8 @@ use Rattle.recompose_laws.proofs.Meanings.{meaning_found, meaning_none}
 use Rattle.recompose_laws.specs.CalculatedCells.{Calculation, Calculates, StmtCalculates, StmtsCalculate, FunctionsCalculate}
 use Rattle.composer.specs.BesideContracts.{LastComposition, IsSince}
 use Rattle.composer.proofs.OldParts.{since_front, since_calculates}
+use Rattle.lang_ast.specs.Programs.{statement_with_inner, statements_in, functions_statements}
+use Rattle.lang_ast.proofs.Statements.{each_apart}
 use Rattle.lang_ast.proofs.Functions.{functions_front, functions_at}
 
 -- The functions of a program in memory and in their view.
@@ -51,7 +51,8 @@ function_calculates : (calc : Calculation) (fs : List Function) (j : ℕ) (f : F
 function_calculates calc [] j f below h = absurd (omega (arith, below))
 function_calculates calc (g ∷ fs) zero f below h =
     (each_apart (Calculates calc) (statements_in (stmts_view g.body.items)) (functions_statements (functions_view fs)) h).0
-function_calculates calc (g ∷ fs) (suc j) f below h = function_calculates calc fs j f (omega (arith, below))
+function_calculates calc (g ∷ fs) (suc j) f below h =
+    function_calculates calc fs j f (omega (arith, below))
     (each_apart (Calculates calc) (statements_in (stmts_view g.body.items)) (functions_statements (functions_view fs)) h).1
 
 -- The calculations of the body of a function at hand.

@@ -24,3 +24,4 @@ pub mod SkippedCalls
 pub mod Sound
 pub mod WholeFrames
 pub mod Tables
+pub mod EnteredBlocks

@@ -5,7 +5,7 @@ use Rattle.rt_values.specs.Maps.{Map}
 use Rattle.rt_groups.specs.GroupForest.{GroupForest, End, Read, Group, GroupKind, asks}
 use Rattle.rt_groups.specs.Paths.{GroupKey, sibling, same_sibling, Found, nth, matching_sibling, inside_of}
 use Rattle.path_laws.specs.SiblingEquality.{same_is}
-use Rattle.lang_ast.specs.Terms.{Func, Stmt}
+use Rattle.lang_ast.specs.Terms.{Func}
 use Rattle.lang_ast.specs.Programs.{statements_in, functions_statements}
 use Rattle.lang_ast.proofs.Statements.{each_apart, each_joined}
 use Rattle.recompose_laws.specs.Refreshing.{SameReads}
@@ -129,9 +129,9 @@ front_calculates : (c : LastComposition) (fs more : List Func) → FunctionsCalc
     → FunctionsCalculate c.calculation fs
 front_calculates c [] more h = tt
 front_calculates c (f ∷ fs) more h =
-    let P : Stmt → Type 0 = Calculates c.calculation in
-    let both = each_apart P (statements_in f.body) (functions_statements (fs ++ more)) h in
-    each_joined P (statements_in f.body) (functions_statements fs) both.0 (front_calculates c fs more both.1)
+    let both = each_apart (Calculates c.calculation) (statements_in f.body) (functions_statements (fs ++ more)) h in
+    each_joined (Calculates c.calculation) (statements_in f.body) (functions_statements fs) both.0
+    (front_calculates c fs more both.1)
 
 -- The calculations of the functions at hand follow from their sites.
 pub since_calculates : {l : LastComposition} {fs : List Func} → IsSince l fs → FunctionsCalculate l.calculation fs

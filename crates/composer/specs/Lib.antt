@@ -10,3 +10,4 @@ pub mod BesideContracts
 pub mod FrameStates
 pub mod QuietRuns
 pub mod Recomposes
+pub mod EntersBlock

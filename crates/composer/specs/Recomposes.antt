@@ -8,10 +8,10 @@ use Rattle.rt_groups.specs.declared.groups.GroupKind.TheVariants as listed
 use Rattle.rt_groups.specs.GroupForest.{GroupForest, GroupKind, Call, Node, Key, Cell}
 use Rattle.rt_groups.specs.Paths.{GroupKey, Found, inside_of}
 use Rattle.rt_groups.specs.Frames.{most_groups}
-use Rattle.lang_ast.specs.Terms.{Stmt, Stmts, Func}
+use Rattle.lang_ast.specs.Terms.{Head, Stmt, Stmts, Func}
 use Rattle.lang_ast.specs.SyntaxView.{functions_view}
 use Rattle.lang_ast.specs.Evaluation.{Bindings}
-use Rattle.compose_model.specs.Composing.{meaning_at, meanings}
+use Rattle.compose_model.specs.Composing.{composed_block, meaning_at, meanings}
 use Rattle.compose_model.specs.StatementForests.{statement_forest, body_forest, call_forest, loop_forest}
 use Rattle.recompose_laws.specs.Work.{siblings}
 use Rattle.recompose_laws.specs.Refreshing.{is_owed}
@@ -60,6 +60,9 @@ statement_at level s env m = statement_forest m level.functions.now s env
 
 abbrev pub body_at : Level → Stmts → Bindings → Map → GroupForest
 body_at level body env m = body_forest m level.functions.now body env
+
+abbrev pub block_at : Level → ℕ → Head → Stmts → Bindings → Map → GroupForest
+block_at level site head body env m = composed_block m site head env (λ inner. body_at level body inner m)
 
 abbrev pub call_at : Level → ℕ → ℕ → List Value → Map → GroupForest
 call_at level site function arguments m = call_forest m level.functions.now site function arguments

@@ -1,24 +1,24 @@
 // Composing again next to the groups of the last frame.
-ghost use Rattle.std.specs.Prelude.{◌≡◌, ◌≤◌, ◌<◌, ◌+◌, ◌++◌, ◌∷◌, [], ℕ, List, Option, Some, Err, length, drop, map, take, true, false, IfOk, OnOk, OnErr};
-ghost use Rattle.rt_values.specs.declared.value.Value.{Value as value_data};
+ghost use Rattle.std.specs.Prelude.{◌≡◌, ◌<◌, ◌++◌, ◌∷◌, [], length, drop, take, IfOk, OnOk};
 ghost use Rattle.rt_values.specs.Maps.{Map};
-ghost use Rattle.rt_values.specs.Views.{Grew};
 ghost use Rattle.rt_groups.specs.PreorderGroups.{preorder};
-ghost use Rattle.rt_groups.specs.Frames.{LastFrame, most_groups};
-ghost use Rattle.lang_ast.specs.Terms.{Node, Key, For, Let, Remember, If, Block};
-ghost use Rattle.lang_ast.specs.SyntaxView.{expr_view, exprs_view, nameds_view, head_view, stmt_view, stmts_view};
-ghost use Rattle.lang_ast.specs.Evaluation.{new_binding, eval, eval_all};
+ghost use Rattle.rt_groups.specs.Frames.{LastFrame};
+ghost use Rattle.lang_ast.specs.Terms.{If};
+ghost use Rattle.lang_ast.specs.SyntaxView.{expr_view, exprs_view, head_view, stmt_view, stmts_view};
+ghost use Rattle.lang_ast.specs.Evaluation.{new_binding, eval_all};
 ghost use Rattle.compose_model.specs.Composing.{forest_after};
-ghost use Rattle.recompose_laws.specs.CalculatedCells.{Calculation, CalculatesAtSite, StmtCalculates, StmtsCalculate};
-ghost use Rattle.composer.specs.WrittenGroups.{Drafts, kept_of, value_kept, group_kind, arguments_of, AreArguments};
+ghost use Rattle.recompose_laws.specs.CalculatedCells.{StmtCalculates, StmtsCalculate};
+ghost use Rattle.composer.specs.WrittenGroups.{Drafts, arguments_of, AreArguments};
 ghost use Rattle.composer.specs.FrameDrafts.{Holds, IsOwing, ComposesFrame, root_of};
 ghost use Rattle.lang_ast.specs.Programs.{functions_of};
-ghost use Rattle.composer.specs.OldSiblings.{old_group, IsFoundIn};
-ghost use Rattle.composer.specs.Recomposes.{Recomposes, Continues, RanInside, StaysIn, Writes, HasRoom, HasRoomToWrite, FitsIn, statement_at, body_at, call_at, loop_at, BodyRan, GroupSkipped, GroupsSkipped, FrameWritten, any_calculation};
+ghost use Rattle.composer.specs.OldSiblings.{IsFoundIn};
+ghost use Rattle.composer.specs.Recomposes.{Recomposes, Continues, RanInside, StaysIn, Writes, HasRoom, HasRoomToWrite, FitsIn, statement_at, block_at, body_at, call_at, loop_at, BodyRan, GroupSkipped, GroupsSkipped, FrameWritten, any_calculation};
+ghost use Rattle.composer.specs.EntersBlock.{HeadCalculates};
 
-use crate::compared::{call_is_run, kept_value, meet};
+use crate::blocks::{Entered, enter_block};
+use crate::compared::{call_is_run, meet};
 use crate::draft::{Draft, Held};
-use crate::entering::{enter_group, keep_group, push_name};
+use crate::entering::{keep_group, push_name};
 use crate::last_groups::LastGroups;
 use crate::old_groups::OldGroup;
 use crate::owed::Owed;
@@ -26,24 +26,16 @@ use crate::pending::Pending;
 use crate::progress::{Level, Progress};
 use crate::runs::{is_end, next_call, quiet_call_end};
 use crate::stop::ComposeStop;
-use crate::writer::{CallArguments, CellValue, NewKind, Writer};
+use crate::writer::{CallArguments, Writer};
 use group_keys::SiblingKey;
-use lang_ast::{Expression, Function, Head, Ident, Named, Statement};
+use lang_ast::{Expression, Function, Head, Ident, Statement};
 use lang_checks::Checked;
-use lang_eval::{Env, bind, eval_noting, evaluate_all, evaluate_attributes, evaluate_keys};
-use rt_groups::{Deps, GroupKind, Values};
-use rt_values::{NoMemory, Steps, Value, View};
+use lang_eval::{bind, eval_noting, evaluate_all};
+use rt_groups::{GroupKind, Values};
+use rt_values::{Steps, Value, View};
 use std::alloc::Global;
 use std::mem;
 use std::sync::ledger::Ledger;
-
-/// What a cell remembers: the keys and the calculation of a `remember` at a site.
-#[derive(Clone, Copy)]
-pub struct Remembered<'a> {
-    pub site: u32,
-    pub keys: &'a [Named],
-    pub value: &'a Expression,
-}
 
 // Composes statements in order.
 #[cycle(again)]
@@ -110,9 +102,8 @@ fn run_one<'a, V: View, L: Ledger>(
     }
 }
 
-// Composes a block.
+// Composes a block: enters it, and composes its body inside its group, with a variable, or once for each number.
 #[cycle(again)]
-#[inline(always)]
 fn run_block<'a, V: View, L: Ledger>(
     level: &Level<'a>,
     site: u32,
@@ -124,21 +115,14 @@ fn run_block<'a, V: View, L: Ledger>(
 ) -> Result<(), ComposeStop>
     requires { HasRoom level.now made.old }
     ensures { Recomposes V.shows V.asked V.keeps level.now
-        (statement_at level.now (Block 0 site (head_view head.now) (stmts_view body.now)) made.old.scope)
-        (λ calc. StmtCalculates calc (Block 0 site (head_view head.now) (stmts_view body.now)))
+        (block_at level.now site (head_view head.now) (stmts_view body.now) made.old.scope)
+        (λ calc. HeadCalculates calc site (head_view head.now) × StmtsCalculate calc (stmts_view body.now))
         view.old view.new made.old made.new result }
 {
-    match head {
-        Head::Node { kind, attributes } => {
-            run_node(level, site, kind, attributes, body, made, view, steps)
-        }
-        Head::Key { key } => run_key(level, site, key, body, made, view, steps),
-        Head::For { name, list } => run_for(level, name, list, body, made, view, steps),
-        Head::Let { name, value } => run_let(level, name, value, body, made, view, steps),
-        Head::Remember { name, keys, value } => {
-            let cell = Remembered { site, keys, value };
-            run_remember(level, cell, name, body, made, view, steps)
-        }
+    match enter_block(level, site, head, made, view)? {
+        Entered::Inside(found) => run_inside(level, &found, body, made, view, steps),
+        Entered::Bound(name, value) => run_bound(level, name, value, body, made, view, steps),
+        Entered::Turns(name, list) => run_turns(level, name, list.items(), body, made, view, steps),
     }
 }
 
@@ -176,80 +160,6 @@ fn run_inside<'a, V: View, L: Ledger>(
     run_all(&inside, body, made, view, steps)?;
     made.pending = around;
     Ok(())
-}
-
-// Composes a node: evaluates its attributes, matches its group with an old sibling, appends it, and composes the
-// statements inside it.
-#[cycle(again)]
-fn run_node<'a, V: View, L: Ledger>(
-    level: &Level<'a>,
-    site: u32,
-    kind: &Ident,
-    attributes: &[Named],
-    body: &[Statement],
-    made: &mut Progress<'a>,
-    view: &mut V,
-    steps: &mut Steps<L>,
-) -> Result<(), ComposeStop>
-    requires { HasRoom level.now made.old }
-    ensures { Recomposes V.shows V.asked V.keeps level.now
-        (statement_at level.now
-        (Block 0 site (Node kind.now (nameds_view attributes.now)) (stmts_view body.now)) made.old.scope)
-        (λ calc. StmtsCalculate calc (stmts_view body.now))
-        view.old view.new made.old made.new result }
-{
-    let room = made.spares.take_attributes(level.alloc, attributes.len())?;
-    let attributes = evaluate_attributes(
-        level.alloc,
-        room,
-        attributes,
-        &made.scope,
-        view,
-        &mut made.reads,
-    )?;
-    let node = NewKind::Node {
-        kind: &kind.text,
-        attributes,
-    };
-    let found = enter_group(
-        level,
-        site,
-        node,
-        &mut made.pending,
-        &mut made.writer,
-        &mut made.spares,
-    )?;
-    run_inside(level, &found, body, made, view, steps)
-}
-
-// Composes a key: evaluates it, matches its group with an old sibling, appends it, and composes the statements inside
-// it.
-#[cycle(again)]
-fn run_key<'a, V: View, L: Ledger>(
-    level: &Level<'a>,
-    site: u32,
-    key: &Expression,
-    body: &[Statement],
-    made: &mut Progress<'a>,
-    view: &mut V,
-    steps: &mut Steps<L>,
-) -> Result<(), ComposeStop>
-    requires { HasRoom level.now made.old }
-    ensures { Recomposes V.shows V.asked V.keeps level.now
-        (statement_at level.now (Block 0 site (Key (expr_view key.now)) (stmts_view body.now)) made.old.scope)
-        (λ calc. StmtsCalculate calc (stmts_view body.now))
-        view.old view.new made.old made.new result }
-{
-    let key = eval_noting(level.alloc, key, &made.scope, view, &mut made.reads)?;
-    let found = enter_group(
-        level,
-        site,
-        NewKind::Key(key),
-        &mut made.pending,
-        &mut made.writer,
-        &mut made.spares,
-    )?;
-    run_inside(level, &found, body, made, view, steps)
 }
 
 // Evaluates the condition and composes one of two lists of statements.
@@ -301,48 +211,6 @@ fn run_bound<'a, V: View, L: Ledger>(
     Ok(())
 }
 
-// Evaluates an expression and composes statements with a variable of this value.
-#[cycle(again)]
-fn run_let<'a, V: View, L: Ledger>(
-    level: &Level<'a>,
-    name: &Ident,
-    value: &Expression,
-    body: &[Statement],
-    made: &mut Progress<'a>,
-    view: &mut V,
-    steps: &mut Steps<L>,
-) -> Result<(), ComposeStop>
-    requires { HasRoom level.now made.old }
-    ensures { Recomposes V.shows V.asked V.keeps level.now
-        (statement_at level.now (Block 0 0 (Let name.now (expr_view value.now)) (stmts_view body.now)) made.old.scope)
-        (λ calc. StmtsCalculate calc (stmts_view body.now))
-        view.old view.new made.old made.new result }
-{
-    let value = eval_noting(level.alloc, value, &made.scope, view, &mut made.reads)?;
-    run_bound(level, name, value, body, made, view, steps)
-}
-
-// Evaluates a list and composes statements for each of its numbers.
-#[cycle(again)]
-fn run_for<'a, V: View, L: Ledger>(
-    level: &Level<'a>,
-    name: &Ident,
-    list: &Expression,
-    body: &[Statement],
-    made: &mut Progress<'a>,
-    view: &mut V,
-    steps: &mut Steps<L>,
-) -> Result<(), ComposeStop>
-    requires { HasRoom level.now made.old }
-    ensures { Recomposes V.shows V.asked V.keeps level.now
-        (statement_at level.now (Block 0 0 (For name.now (expr_view list.now)) (stmts_view body.now)) made.old.scope)
-        (λ calc. StmtsCalculate calc (stmts_view body.now))
-        view.old view.new made.old made.new result }
-{
-    let list = eval_noting(level.alloc, list, &made.scope, view, &mut made.reads)?;
-    run_turns(level, name, list.items(), body, made, view, steps)
-}
-
 // Composes statements once for each number, in order, with a variable of this value.
 #[cycle(again)]
 fn run_turns<'a, V: View, L: Ledger>(
@@ -364,87 +232,6 @@ fn run_turns<'a, V: View, L: Ledger>(
         run_bound(level, name, Value::Int(*item), body, made, view, steps)?;
     }
     Ok(())
-}
-
-// Returns the value of a cell: that of the old cell if its keys are equal, else the calculated value (`cache`).
-fn remember<V: View>(
-    alloc: Global,
-    found: &Option<OldGroup>,
-    env: &Env,
-    value: &Expression,
-    view: &mut V,
-    reads: &mut Deps,
-) -> Result<CellValue, NoMemory>
-    ensures keeps { V.keeps view.old view.new }
-    ensures same { (m : Map) → V.shows view.old m → V.shows view.new m }
-    ensures value { (m : Map) (v : value_data) → V.shows view.old m →
-        ((w : value_data) → kept_of found.now (map (λ b. b.value) env.now) ≡ Some w → w ≡ v) →
-        (eval m (expr_view value.now) env.now).value ≡ v → IfOk result (λ w. w.value ≡ v) }
-    ensures kept { IfOk result (λ w. kept_of found.now (map (λ b. b.value) env.now) ≡ value_kept w) }
-    ensures asks { (m : Map) → V.shows view.old m → (eval m (expr_view value.now) env.now).reads ≡ [] →
-        OnOk result (V.asked view.new ≡ V.asked view.old) }
-    ensures reads { (m : Map) → V.shows view.old m → (eval m (expr_view value.now) env.now).reads ≡ [] →
-        OnOk result (reads.new ≡ reads.old) }
-    ensures part { (m : Map) → V.shows view.old m →
-        OnErr result (Grew (V.asked view.old) (V.asked view.new) (eval m (expr_view value.now) env.now).reads) }
-    ensures counted { (m : Map) → V.shows view.old m →
-        OnOk result (length reads.new + length (V.asked view.old) ≡ length reads.old + length (V.asked view.new)) }
-{
-    match kept_value(alloc, found, env)? {
-        Some(kept) => Ok(CellValue {
-            value: kept,
-            is_kept: true,
-        }),
-        None => Ok(CellValue {
-            value: eval_noting(alloc, value, env, view, reads)?,
-            is_kept: false,
-        }),
-    }
-}
-
-// Composes a cell: evaluates its keys, keeps or calculates its value, appends its group, and composes the statements
-// after it.
-#[cycle(again)]
-fn run_remember<'a, V: View, L: Ledger>(
-    level: &Level<'a>,
-    cell: Remembered,
-    name: &Ident,
-    body: &[Statement],
-    made: &mut Progress<'a>,
-    view: &mut V,
-    steps: &mut Steps<L>,
-) -> Result<(), ComposeStop>
-    requires { HasRoom level.now made.old }
-    ensures { Recomposes V.shows V.asked V.keeps level.now
-        (statement_at level.now (Block 0 cell.entry.site (Remember name.now (nameds_view cell.entry.keys.now)
-        (expr_view cell.entry.value.now)) (stmts_view body.now)) made.old.scope)
-        (λ calc. CalculatesAtSite calc cell.entry.site (nameds_view cell.entry.keys.now)
-        (expr_view cell.entry.value.now) × StmtsCalculate calc (stmts_view body.now))
-        view.old view.new made.old made.new result }
-{
-    let room = made.spares.take_scope(level.alloc);
-    let env = evaluate_keys(
-        level.alloc,
-        room,
-        cell.keys,
-        &made.scope,
-        view,
-        &mut made.reads,
-    )?;
-    let found = made
-        .pending
-        .take(level.alloc, &SiblingKey::new(cell.site, None))?;
-    let remembered = remember(level.alloc, &found, &env, cell.value, view, &mut made.reads)?;
-    made.writer.enter_cell(
-        level.alloc,
-        &mut made.spares,
-        level.depth,
-        cell.site,
-        env,
-        &remembered,
-        &found,
-    )?;
-    run_bound(level, name, remembered.value, body, made, view, steps)
 }
 
 // Composes a call: evaluates its arguments, which its caller reads, and then the call itself.

@@ -10,6 +10,7 @@
 //! - A draft that fails leaves what is held unchanged.
 #![tactic(auto)]
 
+mod blocks;
 mod compared;
 mod composing;
 mod draft;

@@ -1,22 +1,19 @@
-use Rattle.std.proofs.Common.{rules, ◌≡◌, ◌<◌, ◌++◌, ◌+◌, ◌∷◌, [], arith, sym, ap, ◌∙◌, subst, List, ℕ, ℤ, pos, to_z, of_z, w64, append-nil, Err, Ok, refl, length, length-append, get_or, map, Option, Some, None, true, false}
+use Rattle.std.proofs.Common.{rules, ◌≡◌, ◌<◌, ◌++◌, ◌+◌, ◌∷◌, [], arith, sym, ap, ◌∙◌, subst, List, ℕ, ℤ, pos, to_z, of_z, w64, Err, Ok, refl, length, length-append, get_or, Option, Some, None, true, false}
 use Rattle.std.proofs.lemmas.Bool.{eqb-true}
 use Rattle.rt_values.specs.declared.value.Value.{Value}
 use Rattle.rt_values.specs.declared.value.Value.TheVariants as value
-use Rattle.rt_values.specs.Operators.{is_true, items_of}
-use Rattle.rt_values.specs.Views.{Grew}
+use Rattle.rt_values.specs.Operators.{is_true}
 use Rattle.rt_groups.specs.declared.groups.GroupKind.TheVariants as what
-use Rattle.rt_groups.specs.declared.groups.Attribute.{Attribute}
-use Rattle.rt_groups.specs.PreorderGroups.{flat_kind, flat_group}
+use Rattle.rt_groups.specs.PreorderGroups.{flat_group}
 use Rattle.rt_groups.specs.Frames.{most_groups, runs_after, meets}
-use Rattle.rt_groups.specs.GroupForest.{GroupForest, End, Node, Key, Call, Cell}
+use Rattle.rt_groups.specs.GroupForest.{GroupForest, Call}
 use Rattle.rt_groups.specs.Paths.{sibling, occurrence, matching_sibling, inside_of, Found}
 use Rattle.lang_ast.specs.declared.binding.Binding.{Binding}
 use Rattle.lang_ast.specs.declared.syntax.Function.{Function}
-use Rattle.lang_ast.specs.ResultsWithReads.{Reading}
 use Rattle.lang_ast.specs.Terms.{Func}
-use Rattle.lang_ast.specs.Evaluation.{new_binding, eval, eval_named}
-use Rattle.lang_ast.specs.SyntaxView.{expr_view, nameds_view, stmt_view, stmts_view, functions_view}
-use Rattle.compose_model.specs.Composing.{attribute, bind, meaning_at, meanings}
+use Rattle.lang_ast.specs.Evaluation.{new_binding, eval}
+use Rattle.lang_ast.specs.SyntaxView.{expr_view, stmt_view, stmts_view, functions_view}
+use Rattle.compose_model.specs.Composing.{bind, meaning_at, meanings}
 use Rattle.compose_model.specs.StatementForests.{statement_forest, body_forest, call_forest, loop_forest}
 use Rattle.compose_model.proofs.Sizes.{size_at, falls_at}
 use Rattle.compose_model.proofs.StatementForests.{all_at, all_end, turns_at, turns_end}
@@ -27,18 +24,18 @@ use Rattle.composer.specs.OldSiblings.{KeyInfo, old_group}
 use Rattle.composer.specs.OldGroups.{Alike, SameGroup, Fits}
 use Rattle.composer.specs.declared.progress.Around.{Around}
 use Rattle.composer.specs.declared.pending.Pending.{Pending}
-use Rattle.composer.specs.ComposerState.{ComposerState, skipped_groups}
+use Rattle.composer.specs.ComposerState.{ComposerState, composed_beside, skipped_groups}
 use Rattle.composer.specs.QuietRuns.{group_run}
-use Rattle.composer.specs.BesideContracts.{IsOldPart}
-use Rattle.composer.specs.WrittenGroups.{WrittenGroups, state_of, kept_of, arguments_of, first_reads}
+use Rattle.composer.specs.BesideContracts.{Reaches, IsOldPart}
+use Rattle.composer.specs.WrittenGroups.{WrittenGroups, state_of, arguments_of, first_reads}
 use Rattle.composer.specs.Recomposes.{ComposesBeside}
-use Rattle.composer.proofs.BesideCases.{call_beside, choice_beside, block_beside, node_beside, key_beside, loop_beside, binding_beside, remember_beside, then_calculates, else_calculates, block_calculates, cell_calculates}
+use Rattle.composer.proofs.BesideCases.{call_beside, choice_beside, block_beside, then_calculates, else_calculates, block_calculates}
+use Rattle.composer.proofs.EnteredBlocks.{remains_as, beside_failed, then_same, counted_then}
 use Rattle.composer.proofs.Machine.{same_state}
 use Rattle.composer.proofs.Reaching.{reached_stop, reached_full, reached_at, reached_as}
-use Rattle.composer.proofs.BesideSteps.{beside_stop_here, beside_stop_after, beside_after, beside_full, reached_none, beside_cell, beside_run, going_first, going_more, going_done, going_stop, beside_first, beside_second}
-use Rattle.composer.proofs.EnteredGroups.{entered_beside}
+use Rattle.composer.proofs.BesideSteps.{beside_stop_here, beside_stop_after, beside_after, beside_full, reached_none, beside_run, going_first, going_more, going_done, going_stop, beside_first, beside_second}
 use Rattle.composer.proofs.OldMatches.{fits_inside}
-use Rattle.composer.proofs.Matching.{matched, matched_state, kept_is_calculated, entered_longer, call_longer, running_longer, kept_longer, at_now, beside_now}
+use Rattle.composer.proofs.Matching.{matched, call_longer, running_longer, kept_longer, at_now, beside_now}
 use Rattle.composer.proofs.Comparisons.{call_runs_kept}
 use Rattle.composer.proofs.CalledFunctions.{how_many_functions, slice_is, since_slice, statement_calculates, body_none}
 use Rattle.composer.proofs.SkippedCalls.{skips, skips_as}
@@ -47,7 +44,7 @@ use Rattle.composer.proofs.Tables.{fits_after, run_added, run_is}
 use Rattle.composer.proofs.InHand.{in_hand_on, scope_stays, stays_in_hand, counted_in_hand, beside_in_hand}
 use Rattle.composer.proofs.RunCalls.{call_alone, part_ran, longer_ran, body_done, body_stop, part_one, longer_than, call_what, owed_call, kept_call, kept_state, owed_is, body_part, begins_after}
 use Rattle.composer.proofs.SkipLoops.{layer_found, layer_same, layer_site, layer_part, moved_group, quiet_group, left_first, left_group, left_run, left_full, left_memory, left_more, left_stop, left_done, ends_past, index_grows}
-use Rattle.composer.proofs.ReadCounts.{counted_after, counted_cell, counted_kept, longer_on, stopped, failed}
+use Rattle.composer.proofs.ReadCounts.{counted_after, counted_kept, longer_on, stopped, failed}
 use Rattle.composer.proofs.composing.+again.Goals as goal
 
 -- Statements one after another.
@@ -158,10 +155,7 @@ run_one-returns-in-If g t c = record {
   fits = c.run_if.ensures.fits;
   counted = λ m h. c.run_if.ensures.counted m h;
   ran = λ m o h b calc.
-      let r = c.run_if.ensures.ran m o h b (
-        then_calculates o.last.calculation _ _ _ _ _ _ _ c.in-If.is (search rules) calc,
-        else_calculates o.last.calculation _ _ _ _ _ _ _ c.in-If.is (search rules) calc,
-      ) in
+      let r = c.run_if.ensures.ran m o h b (then_calculates o.last.calculation _ _ _ _ _ _ _ c.in-If.is (search rules) calc, else_calculates o.last.calculation _ _ _ _ _ _ _ c.in-If.is (search rules) calc) in
       choice_beside m c.args.level.now.functions.now _ c.args.made.now.scope
       _ _ _ _ _ _ _ _ _ _ _ _ _ _ _ c.in-If.is (search rules) (search rules) r;
 }
@@ -175,83 +169,103 @@ run_one-returns-in-Block g t c = record {
   fits = c.run_block.ensures.fits;
   counted = λ m h. c.run_block.ensures.counted m h;
   ran = λ m o h b calc.
-      let r = c.run_block.ensures.ran m o h b
-      (block_calculates o.last.calculation _ _ _ _ _ _ c.in-Block.is (search rules) calc) in
+      let r = c.run_block.ensures.ran m o h b (block_calculates o.last.calculation _ _ _ _ _ _ c.in-Block.is (search rules) calc) in
       block_beside m c.args.level.now.functions.now _ c.args.made.now.scope _ _ _ _ _ _ _ _ _ _ _ _ _ c.in-Block.is
       (search rules) r;
 }
 
--- One block.
+-- A block.
 
-pub run_block-returns-in-Node : goal.run_block-returns-in-Node
-run_block-returns-in-Node g t c = record {
-  keeps = c.run_node.ensures.keeps;
-  same = c.run_node.ensures.same;
-  same_scope = c.run_node.ensures.same_scope;
-  longer = c.run_node.ensures.longer;
-  fits = c.run_node.ensures.fits;
-  counted = λ m h. c.run_node.ensures.counted m h;
+pub run_block-returns-in_err-found : goal.run_block-returns-in_err-found
+run_block-returns-in_err-found g t c =
+    let e : c.from_residual.result ≡ Err c.in_err-found.field-0.0 = search rules in
+    record {
+      keeps = c.in_err-found.ensures.part.keeps;
+      same = c.in_err-found.ensures.part.same;
+      same_scope = stopped _ _ _ e;
+      longer = stopped _ _ _ e;
+      fits = stopped _ _ _ e;
+      counted = λ m h. stopped _ _ _ e;
+      ran = λ m o h b calc.
+          let go : List Binding → GroupForest =
+          λ env. body_forest m c.args.level.now.functions.now (stmts_view c.args.body.now) env in
+          beside_failed _ _ e (c.in_err-found.ensures.failed m o go h b calc.0);
+    }
+
+pub run_block-returns-in-Inside : goal.run_block-returns-in-Inside
+run_block-returns-in-Inside g t c = record {
+  keeps = g.met.V.View.keeps_on _ _ _ c.in_ok-found.ensures.part.keeps c.run_inside.ensures.part.keeps;
+  same = λ m h. c.run_inside.ensures.part.same m (c.in_ok-found.ensures.part.same m h);
+  same_scope = then_same _ _ _ _ c.run_inside.ensures.part.same_scope c.in_ok-found.ensures.part.same_scope;
+  longer = longer_on _ _ _ _ c.in_ok-found.ensures.part.longer c.run_inside.ensures.part.longer;
+  fits = c.run_inside.ensures.part.fits;
+  counted = λ m h. counted_then _ _ _ _ _ _ _ _ _ _ (c.in_ok-found.ensures.part.counted m h)
+      (c.run_inside.ensures.part.counted m (c.in_ok-found.ensures.part.same m h));
   ran = λ m o h b calc.
-      let r = c.run_node.ensures.ran m o h b calc.1 in
-      node_beside m c.args.level.now.functions.now c.args.made.now.scope c.args.site (stmts_view c.args.body.now) c.args.head.now
-      _ _ _ _ _ _ _ _ _ _ _ c.in-Node.is (search rules) r;
+      let go : List Binding → GroupForest =
+      λ env. body_forest m c.args.level.now.functions.now (stmts_view c.args.body.now) env in
+      let there = c.in_ok-found.ensures.part.same m h in
+      (remains_as _ _ c.in-Inside.is (c.in_ok-found.ensures.remains m o go h b calc.0)).whole _ _ _ (
+        c.run_inside.ensures.pending,
+        λ in_group part like.
+            let P : List Binding → Type 0 = λ env. Reaches (composed_beside c.args.level.now.last.now.owed.objects
+            (inside_of in_group) (c.args.level.now.depth + 1) true [] (go env)
+            (state_of c.enter_block.new.made.writer (g.V.View.asked c.enter_block.new.view) c.enter_block.new.made.reads))
+            (state_of c.run_inside.new.made.writer (g.V.View.asked c.run_inside.new.view) c.run_inside.new.made.reads)
+            c.run_inside.result in
+            subst P c.in_ok-found.ensures.part.same_scope
+            (c.run_inside.ensures.ran m there o.last in_group b.since part like calc.1),
+      );
 }
 
-pub run_block-returns-in-Key : goal.run_block-returns-in-Key
-run_block-returns-in-Key g t c = record {
-  keeps = c.run_key.ensures.keeps;
-  same = c.run_key.ensures.same;
-  same_scope = c.run_key.ensures.same_scope;
-  longer = c.run_key.ensures.longer;
-  fits = c.run_key.ensures.fits;
-  counted = λ m h. c.run_key.ensures.counted m h;
+pub run_block-returns-in-Bound : goal.run_block-returns-in-Bound
+run_block-returns-in-Bound g t c = record {
+  keeps = g.met.V.View.keeps_on _ _ _ c.in_ok-found.ensures.part.keeps c.run_bound.ensures.keeps;
+  same = λ m h. c.run_bound.ensures.same m (c.in_ok-found.ensures.part.same m h);
+  same_scope = then_same _ _ _ _ c.run_bound.ensures.same_scope c.in_ok-found.ensures.part.same_scope;
+  longer = longer_on _ _ _ _ c.in_ok-found.ensures.part.longer c.run_bound.ensures.longer;
+  fits = c.run_bound.ensures.fits;
+  counted = λ m h. counted_then _ _ _ _ _ _ _ _ _ _ (c.in_ok-found.ensures.part.counted m h)
+      (c.run_bound.ensures.counted m (c.in_ok-found.ensures.part.same m h));
   ran = λ m o h b calc.
-      let r = c.run_key.ensures.ran m o h b calc.1 in
-      key_beside m c.args.level.now.functions.now c.args.made.now.scope c.args.site (stmts_view c.args.body.now) c.args.head.now
-      _ _ _ _ _ _ _ _ _ c.in-Key.is r;
+      let go : List Binding → GroupForest =
+      λ env. body_forest m c.args.level.now.functions.now (stmts_view c.args.body.now) env in
+      let there = c.in_ok-found.ensures.part.same m h in
+      (remains_as _ _ c.in-Bound.is (c.in_ok-found.ensures.remains m o go h b calc.0)).whole _ _ _
+      (λ now beside.
+      let P : List Binding → Type 0 = λ env. ComposesBeside c.args.level.now.last.now.owed.objects o.old
+      c.args.level.now.depth now (go (env ++ new_binding c.in-Bound.name.now.text c.in-Bound.value ∷ []))
+      (state_of c.enter_block.new.made.writer (g.V.View.asked c.enter_block.new.view) c.enter_block.new.made.reads)
+      (state_of c.run_bound.new.made.writer (g.V.View.asked c.run_bound.new.view) c.run_bound.new.made.reads)
+      c.run_bound.new.made.pending c.run_bound.result in
+      subst P c.in_ok-found.ensures.part.same_scope
+      (c.run_bound.ensures.ran m (at_now o now) there beside calc.1));
 }
 
-pub run_block-returns-in-For : goal.run_block-returns-in-For
-run_block-returns-in-For g t c = record {
-  keeps = c.run_for.ensures.keeps;
-  same = c.run_for.ensures.same;
-  same_scope = c.run_for.ensures.same_scope;
-  longer = c.run_for.ensures.longer;
-  fits = c.run_for.ensures.fits;
-  counted = λ m h. c.run_for.ensures.counted m h;
+pub run_block-returns-in-Turns : goal.run_block-returns-in-Turns
+run_block-returns-in-Turns g t c = record {
+  keeps = g.met.V.View.keeps_on _ _ _ c.in_ok-found.ensures.part.keeps c.run_turns.ensures.keeps;
+  same = λ m h. c.run_turns.ensures.same m (c.in_ok-found.ensures.part.same m h);
+  same_scope = then_same _ _ _ _ c.run_turns.ensures.same_scope c.in_ok-found.ensures.part.same_scope;
+  longer = longer_on _ _ _ _ c.in_ok-found.ensures.part.longer c.run_turns.ensures.longer;
+  fits = c.run_turns.ensures.fits;
+  counted = λ m h. counted_then _ _ _ _ _ _ _ _ _ _ (c.in_ok-found.ensures.part.counted m h)
+      (c.run_turns.ensures.counted m (c.in_ok-found.ensures.part.same m h));
   ran = λ m o h b calc.
-      let r = c.run_for.ensures.ran m o h b calc.1 in
-      loop_beside m c.args.level.now.functions.now c.args.made.now.scope c.args.site (stmts_view c.args.body.now) c.args.head.now
-      _ _ _ _ _ _ _ _ _ _ c.in-For.is r;
-}
-
-pub run_block-returns-in-Let : goal.run_block-returns-in-Let
-run_block-returns-in-Let g t c = record {
-  keeps = c.run_let.ensures.keeps;
-  same = c.run_let.ensures.same;
-  same_scope = c.run_let.ensures.same_scope;
-  longer = c.run_let.ensures.longer;
-  fits = c.run_let.ensures.fits;
-  counted = λ m h. c.run_let.ensures.counted m h;
-  ran = λ m o h b calc.
-      let r = c.run_let.ensures.ran m o h b calc.1 in
-      binding_beside m c.args.level.now.functions.now c.args.made.now.scope c.args.site (stmts_view c.args.body.now) c.args.head.now
-      _ _ _ _ _ _ _ _ _ _ c.in-Let.is r;
-}
-
-pub run_block-returns-in-Remember : goal.run_block-returns-in-Remember
-run_block-returns-in-Remember g t c = record {
-  keeps = c.run_remember.ensures.keeps;
-  same = c.run_remember.ensures.same;
-  same_scope = c.run_remember.ensures.same_scope;
-  longer = c.run_remember.ensures.longer;
-  fits = c.run_remember.ensures.fits;
-  counted = λ m h. c.run_remember.ensures.counted m h;
-  ran = λ m o h b calc.
-      let r = c.run_remember.ensures.ran m o h b
-      (cell_calculates o.last.calculation c.args.site _ _ _ _ _ _ c.in-Remember.is (search rules) calc, calc.1) in
-      remember_beside m c.args.level.now.functions.now c.args.made.now.scope c.args.site (stmts_view c.args.body.now) c.args.head.now
-      _ _ _ _ _ _ _ _ _ _ _ _ c.in-Remember.is (search rules) r;
+      let go : List Binding → GroupForest =
+      λ env. body_forest m c.args.level.now.functions.now (stmts_view c.args.body.now) env in
+      let there = c.in_ok-found.ensures.part.same m h in
+      (remains_as _ _ c.in-Turns.is (c.in_ok-found.ensures.remains m o go h b calc.0)).whole _ _ _
+      (λ now beside.
+      let P : List Binding → List ℤ → Type 0 = λ env is. ComposesBeside c.args.level.now.last.now.owed.objects o.old
+      c.args.level.now.depth now (loop_forest m c.args.level.now.functions.now c.in-Turns.name.now.text
+      (stmts_view c.args.body.now) env is)
+      (state_of c.enter_block.new.made.writer (g.V.View.asked c.enter_block.new.view) c.enter_block.new.made.reads)
+      (state_of c.run_turns.new.made.writer (g.V.View.asked c.run_turns.new.view) c.run_turns.new.made.reads)
+      c.run_turns.new.made.pending c.run_turns.result in
+      subst (P c.args.made.now.scope) c.items.ensures
+      (subst (λ (env : List Binding). P env c.items.result.now) c.in_ok-found.ensures.part.same_scope
+      (c.run_turns.ensures.ran m (at_now o now) there beside calc.1)));
 }
 
 -- The statements inside a node or a key.
@@ -318,143 +332,6 @@ run_inside-returns-clause-part g t c = record {
         ap (λ (p : Pending). p.table.now.groups) around ∙ c.requires.stays.pending;
   };
   counted = λ m h. c.in_ok-run_all.ensures.counted m h;
-}
-
--- A key.
-
-pub run_key-returns-in_err-key : goal.run_key-returns-in_err-key
-run_key-returns-in_err-key g t c =
-    let e : c.from_residual.result ≡ Err NoMemory = search rules in
-    record {
-      keeps = c.in_err-key.ensures.keeps;
-      same = c.in_err-key.ensures.same;
-      same_scope = stopped _ _ _ e;
-      longer = stopped _ _ _ e;
-      fits = stopped _ _ _ e;
-      counted = λ m h. stopped _ _ _ e;
-      ran = λ m o h b calc.
-          let p = c.in_err-key.ensures.part m h in
-          beside_stop_after _ _ _ e p.rest p.is;
-    }
-
-pub run_key-returns-in_err-found : goal.run_key-returns-in_err-found
-run_key-returns-in_err-found g t c =
-    let e : c.from_residual-in_err-found.result ≡ Err c.in_err-found.field-0.0 = search rules in
-    record {
-      keeps = c.in_ok-key.ensures.keeps;
-      same = c.in_ok-key.ensures.same;
-      same_scope = stopped _ _ _ e;
-      longer = stopped _ _ _ e;
-      fits = stopped _ _ _ e;
-      counted = λ m h. stopped _ _ _ e;
-      ran = λ m o h b calc.
-          beside_after _ _ (state_of c.args.made.now.writer (g.V.View.asked c.eval_noting.new.view) c.eval_noting.new.reads)
-          (same_state refl refl refl refl (c.in_ok-key.ensures.asks m h) (c.in_ok-key.ensures.reads m h))
-          (beside_full _ (failed _ _ e) (search rules) refl);
-    }
-
-pub run_key-returns : goal.run_key-returns
-run_key-returns g t c = record {
-  keeps = g.met.V.View.keeps_on _ _ _ c.in_ok-key.ensures.keeps c.run_inside.ensures.part.keeps;
-  same = λ m h. c.run_inside.ensures.part.same m (c.in_ok-key.ensures.same m h);
-  same_scope = c.run_inside.ensures.part.same_scope;
-  longer = longer_on _ _ _ _ (entered_longer _ _ (what.Key c.in_ok-key.key) c.in_ok-found.found c.args.made.now.writer _
-      c.in_ok-found.ensures.entered) c.run_inside.ensures.part.longer;
-  fits = c.run_inside.ensures.part.fits;
-  counted = λ m h. counted_cell _ _ c.enter_group.new.writer.reads _ _ _ c.eval_noting.new.reads _ _ _
-      (g.V.View.asked c.eval_noting.new.view) _ _ (c.in_ok-key.ensures.asks m h)
-      (c.in_ok-key.ensures.reads m h) refl (ap (λ (q : WrittenGroups). q.reads) c.in_ok-found.ensures.entered)
-      (c.run_inside.ensures.part.counted m (c.eval_noting.ensures.same m h));
-  ran = λ m o h b calc.
-      let P : Value → Type 0 = λ v. ComposesBeside c.args.level.now.last.now.owed.objects o.old c.args.level.now.depth o.seen
-      (GroupForest.Group c.args.site 0 (Key v)
-      (body_forest m c.args.level.now.functions.now (stmts_view c.args.body.now) c.args.made.now.scope) End)
-      (state_of c.args.made.now.writer (g.V.View.asked c.eval_noting.new.view) c.eval_noting.new.reads)
-      (state_of c.run_inside.new.made.writer (g.V.View.asked c.run_inside.new.view) c.run_inside.new.made.reads)
-      c.run_inside.new.made.pending c.run_inside.result in
-      let inner = subst P (c.in_ok-key.ensures.value m h)
-      (entered_beside c.run_inside.result c.enter_group.new.pending (Key c.in_ok-key.key) (what.Key c.in_ok-key.key) refl refl b
-      c.in_ok-found.ensures.found c.in_ok-found.ensures.left c.in_ok-found.ensures.entered
-      c.run_inside.ensures.pending
-      (λ there part like. c.run_inside.ensures.ran m (c.eval_noting.ensures.same m h) o.last there b.since part like calc)) in
-      beside_after _ _ (state_of c.args.made.now.writer (g.V.View.asked c.eval_noting.new.view) c.eval_noting.new.reads)
-      (same_state refl refl refl refl (c.in_ok-key.ensures.asks m h) (c.in_ok-key.ensures.reads m h)) inner;
-}
-
--- A node.
-
-pub run_node-returns-in_err-room : goal.run_node-returns-in_err-room
-run_node-returns-in_err-room g t c =
-    let e : c.from_residual.result ≡ Err NoMemory = search rules in
-    record {
-      keeps = g.met.V.View.keeps_itself _;
-      same = λ m h. h;
-      same_scope = stopped _ _ _ e;
-      longer = stopped _ _ _ e;
-      fits = stopped _ _ _ e;
-      counted = λ m h. stopped _ _ _ e;
-      ran = λ m o h b calc.
-          beside_stop_here _ e refl;
-    }
-
-pub run_node-returns-in_err-attributes : goal.run_node-returns-in_err-attributes
-run_node-returns-in_err-attributes g t c =
-    let e : c.from_residual-in_err-attributes.result ≡ Err NoMemory = search rules in
-    record {
-      keeps = c.in_err-attributes.ensures.keeps;
-      same = c.in_err-attributes.ensures.same;
-      same_scope = stopped _ _ _ e;
-      longer = stopped _ _ _ e;
-      fits = stopped _ _ _ e;
-      counted = λ m h. stopped _ _ _ e;
-      ran = λ m o h b calc.
-          let p = c.in_err-attributes.ensures.part m h in
-          beside_stop_after _ _ _ e p.rest p.is;
-    }
-
-pub run_node-returns-in_err-found : goal.run_node-returns-in_err-found
-run_node-returns-in_err-found g t c =
-    let e : c.from_residual-in_err-found.result ≡ Err c.in_err-found.field-0.0 = search rules in
-    record {
-      keeps = c.in_ok-attributes.ensures.keeps;
-      same = c.in_ok-attributes.ensures.same;
-      same_scope = stopped _ _ _ e;
-      longer = stopped _ _ _ e;
-      fits = stopped _ _ _ e;
-      counted = λ m h. stopped _ _ _ e;
-      ran = λ m o h b calc.
-          beside_after _ _ (state_of c.args.made.now.writer (g.V.View.asked c.evaluate_attributes.new.view)
-          c.evaluate_attributes.new.reads)
-          (same_state refl refl refl refl (c.in_ok-attributes.ensures.asks m h) (c.in_ok-attributes.ensures.reads m h))
-          (beside_full _ (failed _ _ e) (search rules) refl);
-    }
-
-pub run_node-returns : goal.run_node-returns
-run_node-returns g t c = record {
-  keeps = g.met.V.View.keeps_on _ _ _ c.in_ok-attributes.ensures.keeps c.run_inside.ensures.part.keeps;
-  same = λ m h. c.run_inside.ensures.part.same m (c.in_ok-attributes.ensures.same m h);
-  same_scope = c.run_inside.ensures.part.same_scope;
-  longer = longer_on _ _ _ _ (entered_longer _ _
-      (what.Node c.args.kind.now.text c.in_ok-attributes.attributes) c.in_ok-found.found c.args.made.now.writer _
-      c.in_ok-found.ensures.entered) c.run_inside.ensures.part.longer;
-  fits = c.run_inside.ensures.part.fits;
-  counted = λ m h. counted_cell _ _ c.enter_group.new.writer.reads _ _ _ c.evaluate_attributes.new.reads _ _ _
-      (g.V.View.asked c.evaluate_attributes.new.view) _ _ (c.in_ok-attributes.ensures.asks m h)
-      (c.in_ok-attributes.ensures.reads m h) refl (ap (λ (q : WrittenGroups). q.reads) c.in_ok-found.ensures.entered)
-      (c.run_inside.ensures.part.counted m (c.evaluate_attributes.ensures.same m h));
-  ran = λ m o h b calc.
-      let all = (eval_named m (nameds_view c.args.attributes.now) c.args.made.now.scope).value in
-      let w = Node c.args.kind.now.text (map attribute all) in
-      let made : what.Node c.args.kind.now.text c.in_ok-attributes.attributes ≡ flat_kind w =
-      ap (λ (l : List Attribute). what.Node c.args.kind.now.text l) (c.in_ok-attributes.ensures.value m h) in
-      let inner = entered_beside c.run_inside.result c.enter_group.new.pending w (what.Node c.args.kind.now.text c.in_ok-attributes.attributes)
-      made refl b c.in_ok-found.ensures.found c.in_ok-found.ensures.left c.in_ok-found.ensures.entered
-      c.run_inside.ensures.pending
-      (λ there part like. c.run_inside.ensures.ran m (c.evaluate_attributes.ensures.same m h) o.last there b.since part like calc) in
-      beside_after _ _ (state_of c.args.made.now.writer (g.V.View.asked c.evaluate_attributes.new.view)
-      c.evaluate_attributes.new.reads)
-      (same_state refl refl refl refl (c.in_ok-attributes.ensures.asks m h) (c.in_ok-attributes.ensures.reads m h))
-      inner;
 }
 
 -- One of two lists of statements.
@@ -549,83 +426,7 @@ run_bound-returns g t c = record {
       subst P e (c.in_ok-run_all.ensures.ran m o h b calc);
 }
 
--- A variable.
-
-pub run_let-returns-in_err-value : goal.run_let-returns-in_err-value
-run_let-returns-in_err-value g t c =
-    let e : c.from_residual.result ≡ Err NoMemory = search rules in
-    record {
-      keeps = c.in_err-value.ensures.keeps;
-      same = c.in_err-value.ensures.same;
-      same_scope = stopped _ _ _ e;
-      longer = stopped _ _ _ e;
-      fits = stopped _ _ _ e;
-      counted = λ m h. stopped _ _ _ e;
-      ran = λ m o h b calc.
-          let p = c.in_err-value.ensures.part m h in
-          beside_stop_after _ _ _ e p.rest p.is;
-    }
-
-pub run_let-returns : goal.run_let-returns
-run_let-returns g t c = record {
-  keeps = g.met.V.View.keeps_on _ _ _ c.in_ok-value.ensures.keeps c.run_bound.ensures.keeps;
-  same = λ m h. c.run_bound.ensures.same m (c.in_ok-value.ensures.same m h);
-  same_scope = c.run_bound.ensures.same_scope;
-  longer = c.run_bound.ensures.longer;
-  fits = c.run_bound.ensures.fits;
-  counted = λ m h. counted_after _ _ _ _ _ _ _ _ _ _ (c.in_ok-value.ensures.asks m h) (c.in_ok-value.ensures.reads m h)
-      (c.run_bound.ensures.counted m (c.eval_noting.ensures.same m h));
-  ran = λ m o h b calc.
-      let P : Value → Type 0 = λ v. ComposesBeside c.args.level.now.last.now.owed.objects o.old c.args.level.now.depth o.seen
-      (body_forest m c.args.level.now.functions.now (stmts_view c.args.body.now)
-      (c.args.made.now.scope ++ new_binding c.args.name.now.text v ∷ []))
-      (state_of c.args.made.now.writer (g.V.View.asked c.eval_noting.new.view) c.eval_noting.new.reads)
-      (state_of c.run_bound.new.made.writer (g.V.View.asked c.run_bound.new.view) c.run_bound.new.made.reads)
-      c.run_bound.new.made.pending c.run_bound.result in
-      let inner = subst P (c.in_ok-value.ensures.value m h)
-      (c.run_bound.ensures.ran m o (c.eval_noting.ensures.same m h) b calc) in
-      beside_after _ _ (state_of c.args.made.now.writer (g.V.View.asked c.eval_noting.new.view) c.eval_noting.new.reads)
-      (same_state refl refl refl refl (c.in_ok-value.ensures.asks m h) (c.in_ok-value.ensures.reads m h)) (inner);
-}
-
 -- A loop.
-
-pub run_for-returns-in_err-list : goal.run_for-returns-in_err-list
-run_for-returns-in_err-list g t c =
-    let e : c.from_residual.result ≡ Err NoMemory = search rules in
-    record {
-      keeps = c.in_err-list.ensures.keeps;
-      same = c.in_err-list.ensures.same;
-      same_scope = stopped _ _ _ e;
-      longer = stopped _ _ _ e;
-      fits = stopped _ _ _ e;
-      counted = λ m h. stopped _ _ _ e;
-      ran = λ m o h b calc.
-          let p = c.in_err-list.ensures.part m h in
-          beside_stop_after _ _ _ e p.rest p.is;
-    }
-
-pub run_for-returns : goal.run_for-returns
-run_for-returns g t c = record {
-  keeps = g.met.V.View.keeps_on _ _ _ c.in_ok-list.ensures.keeps c.run_turns.ensures.keeps;
-  same = λ m h. c.run_turns.ensures.same m (c.in_ok-list.ensures.same m h);
-  same_scope = c.run_turns.ensures.same_scope;
-  longer = c.run_turns.ensures.longer;
-  fits = c.run_turns.ensures.fits;
-  counted = λ m h. counted_after _ _ _ _ _ _ _ _ _ _ (c.in_ok-list.ensures.asks m h) (c.in_ok-list.ensures.reads m h)
-      (c.run_turns.ensures.counted m (c.eval_noting.ensures.same m h));
-  ran = λ m o h b calc.
-      let P : List ℤ → Type 0 = λ is. ComposesBeside c.args.level.now.last.now.owed.objects o.old c.args.level.now.depth
-      o.seen (loop_forest m c.args.level.now.functions.now c.args.name.now.text (stmts_view c.args.body.now)
-      c.args.made.now.scope is) (state_of c.args.made.now.writer (g.V.View.asked c.eval_noting.new.view)
-      c.eval_noting.new.reads)
-      (state_of c.run_turns.new.made.writer (g.V.View.asked c.run_turns.new.view) c.run_turns.new.made.reads)
-      c.run_turns.new.made.pending c.run_turns.result in
-      let inner = subst P (c.items.ensures ∙ ap items_of (c.in_ok-list.ensures.value m h))
-      (c.run_turns.ensures.ran m o (c.eval_noting.ensures.same m h) b calc) in
-      beside_after _ _ (state_of c.args.made.now.writer (g.V.View.asked c.eval_noting.new.view) c.eval_noting.new.reads)
-      (same_state refl refl refl refl (c.in_ok-list.ensures.asks m h) (c.in_ok-list.ensures.reads m h)) (inner);
-}
 
 pub run_turns-loop-item-init : goal.run_turns-loop-item-init
 run_turns-loop-item-init g t c = record {
@@ -712,153 +513,6 @@ run_turns-loop-item-preserved g t c = record {
       let go : ℤ → GroupForest = λ i. body_forest m c.args.level.now.functions.now (stmts_view c.args.body.now)
       (c.args.made.now.scope ++ new_binding c.args.name.now.text (value.Int i) ∷ []) in
       going_more (turns_at go c.args.items.now c.loop-item.item-index (omega arith)) k ran;
-}
-
--- A cell.
-
-pub run_remember-returns-in_err-env : goal.run_remember-returns-in_err-env
-run_remember-returns-in_err-env g t c =
-    let e : c.from_residual.result ≡ Err NoMemory = search rules in
-    record {
-      keeps = c.in_err-env.ensures.keeps;
-      same = c.in_err-env.ensures.same;
-      same_scope = stopped _ _ _ e;
-      longer = stopped _ _ _ e;
-      fits = stopped _ _ _ e;
-      counted = λ m h. stopped _ _ _ e;
-      ran = λ m o h b calc.
-          let p = c.in_err-env.ensures.part m h in
-          beside_stop_after _ _ _ e p.rest p.is;
-    }
-
-pub run_remember-returns-in_err-found : goal.run_remember-returns-in_err-found
-run_remember-returns-in_err-found g t c =
-    let e : c.from_residual-in_err-found.result ≡ Err NoMemory = search rules in
-    record {
-      keeps = c.in_ok-env.ensures.keeps;
-      same = c.in_ok-env.ensures.same;
-      same_scope = stopped _ _ _ e;
-      longer = stopped _ _ _ e;
-      fits = stopped _ _ _ e;
-      counted = λ m h. stopped _ _ _ e;
-      ran = λ m o h b calc.
-          beside_after _ _ (state_of c.args.made.now.writer (g.V.View.asked c.evaluate_keys.new.view)
-          c.evaluate_keys.new.reads) (same_state refl refl refl refl (c.in_ok-env.ensures.asks m h)
-          (c.in_ok-env.ensures.reads m h)) (beside_stop_here _ e refl);
-    }
-
-pub run_remember-returns-in_err-remembered : goal.run_remember-returns-in_err-remembered
-run_remember-returns-in_err-remembered g t c =
-    let e : c.from_residual-in_err-remembered.result ≡ Err NoMemory = search rules in
-    record {
-      keeps = g.met.V.View.keeps_on _ _ _ c.in_ok-env.ensures.keeps c.in_err-remembered.ensures.keeps;
-      same = λ m h. c.in_err-remembered.ensures.same m (c.in_ok-env.ensures.same m h);
-      same_scope = stopped _ _ _ e;
-      longer = stopped _ _ _ e;
-      fits = stopped _ _ _ e;
-      counted = λ m h. stopped _ _ _ e;
-      ran = λ m o h b calc.
-          let ev = ap (λ (k : List Binding). eval m (expr_view c.args.cell.value.now) k) (c.in_ok-env.ensures.value m h) in
-          let p = subst (λ (r : Reading Value). Grew (g.V.View.asked c.evaluate_keys.new.view)
-          (g.V.View.asked c.remember.new.view) r.reads) ev
-          (c.in_err-remembered.ensures.part m (c.in_ok-env.ensures.same m h)) in
-          beside_after _ _ (state_of c.args.made.now.writer (g.V.View.asked c.evaluate_keys.new.view)
-          c.evaluate_keys.new.reads) (same_state refl refl refl refl (c.in_ok-env.ensures.asks m h)
-          (c.in_ok-env.ensures.reads m h)) (beside_stop_after _ _ _ e p.rest p.is);
-    }
-
-pub run_remember-returns-in_err-enter_cell : goal.run_remember-returns-in_err-enter_cell
-run_remember-returns-in_err-enter_cell g t c =
-    let e : c.from_residual-in_err-enter_cell.result ≡ Err c.in_err-enter_cell.field-0.0 = search rules in
-    record {
-      keeps = g.met.V.View.keeps_on _ _ _ c.in_ok-env.ensures.keeps c.in_ok-remembered.ensures.keeps;
-      same = λ m h. c.in_ok-remembered.ensures.same m (c.in_ok-env.ensures.same m h);
-      same_scope = stopped _ _ _ e;
-      longer = stopped _ _ _ e;
-      fits = stopped _ _ _ e;
-      counted = λ m h. stopped _ _ _ e;
-      ran = λ m o h b calc.
-          let env = (eval_named m (nameds_view c.args.cell.keys.now) c.args.made.now.scope).value in
-          let ev = ap (λ (k : List Binding). eval m (expr_view c.args.cell.value.now) k) (c.in_ok-env.ensures.value m h) in
-          let there = c.in_ok-env.ensures.same m h in
-          let none = (calc.0 m c.args.made.now.scope).1 in
-          let quiet : (eval m (expr_view c.args.cell.value.now) c.in_ok-env.env).reads ≡ [] =
-          ap (λ (r : Reading Value). r.reads) ev ∙ none in
-          let asks : g.V.View.asked c.remember.new.view ≡ g.V.View.asked c.evaluate_keys.new.view ++ (eval m (expr_view c.args.cell.value.now) env).reads =
-          c.in_ok-remembered.ensures.asks m there quiet ∙ sym (append-nil (g.V.View.asked c.evaluate_keys.new.view))
-          ∙ ap (λ l. g.V.View.asked c.evaluate_keys.new.view ++ l) (sym none) in
-          let reads : c.remember.new.reads ≡ c.evaluate_keys.new.reads ++ (eval m (expr_view c.args.cell.value.now) env).reads =
-          c.in_ok-remembered.ensures.reads m there quiet ∙ sym (append-nil c.evaluate_keys.new.reads)
-          ∙ ap (λ l. c.evaluate_keys.new.reads ++ l) (sym none) in
-          beside_after _ _ (state_of c.args.made.now.writer (g.V.View.asked c.evaluate_keys.new.view)
-          c.evaluate_keys.new.reads) (same_state refl refl refl refl (c.in_ok-env.ensures.asks m h)
-          (c.in_ok-env.ensures.reads m h))
-          (beside_after _ _ (state_of c.args.made.now.writer (g.V.View.asked c.remember.new.view) c.remember.new.reads)
-          (same_state refl refl refl refl asks reads) (beside_full _ (failed _ _ e) (search rules) refl));
-    }
-
-pub run_remember-returns : goal.run_remember-returns
-run_remember-returns g t c = record {
-  keeps = g.met.V.View.keeps_on _ _ _ c.in_ok-env.ensures.keeps (g.met.V.View.keeps_on _ _ _ c.in_ok-remembered.ensures.keeps c.run_bound.ensures.keeps);
-  same = λ m h. c.run_bound.ensures.same m (c.in_ok-remembered.ensures.same m (c.in_ok-env.ensures.same m h));
-  same_scope = c.run_bound.ensures.same_scope;
-  longer = longer_on _ _ _ _ (entered_longer _ _
-      (what.Cell (map (λ (k : Binding). k.value) c.in_ok-env.env) c.in_ok-remembered.remembered.value) c.in_ok-found.found
-      c.args.made.now.writer _ c.in_ok-enter_cell.ensures.entered) c.run_bound.ensures.longer;
-  fits = c.run_bound.ensures.fits;
-  counted = λ m h. counted_cell _ _ _ _ _ _ _ _ _ _ _ _ _ (c.in_ok-env.ensures.asks m h) (c.in_ok-env.ensures.reads m h)
-      (c.in_ok-remembered.ensures.counted m (c.in_ok-env.ensures.same m h))
-      (ap (λ (q : WrittenGroups). q.reads) c.in_ok-enter_cell.ensures.entered)
-      (c.run_bound.ensures.counted m (c.in_ok-remembered.ensures.same m (c.in_ok-env.ensures.same m h)));
-  ran = λ m o h b calc.
-      let env = (eval_named m (nameds_view c.args.cell.keys.now) c.args.made.now.scope).value in
-      let ev = ap (λ (k : List Binding). eval m (expr_view c.args.cell.value.now) k) (c.in_ok-env.ensures.value m h) in
-      let there = c.in_ok-env.ensures.same m h in
-      let none = (calc.0 m c.args.made.now.scope).1 in
-      let quiet : (eval m (expr_view c.args.cell.value.now) c.in_ok-env.env).reads ≡ [] =
-      ap (λ (r : Reading Value). r.reads) ev ∙ none in
-      let asks : g.V.View.asked c.remember.new.view ≡ g.V.View.asked c.evaluate_keys.new.view ++ (eval m (expr_view c.args.cell.value.now) env).reads =
-      c.in_ok-remembered.ensures.asks m there quiet ∙ sym (append-nil (g.V.View.asked c.evaluate_keys.new.view))
-      ∙ ap (λ l. g.V.View.asked c.evaluate_keys.new.view ++ l) (sym none) in
-      let reads : c.remember.new.reads ≡ c.evaluate_keys.new.reads ++ (eval m (expr_view c.args.cell.value.now) env).reads =
-      c.in_ok-remembered.ensures.reads m there quiet ∙ sym (append-nil c.evaluate_keys.new.reads)
-      ∙ ap (λ l. c.evaluate_keys.new.reads ++ l) (sym none) in
-      let ks = map (λ (k : Binding). k.value) env in
-      let v = (eval m (expr_view c.args.cell.value.now) env).value in
-      let w = Cell ks v in
-      let x = sibling c.args.cell.site w in
-      let keys = map (λ (k : Binding). k.value) c.in_ok-env.env in
-      let keys_are : keys ≡ ks = ap (λ (k : List Binding). map (λ b. b.value) k) (c.in_ok-env.ensures.value m h) in
-      let k = matched {left = c.take.new.self} x c.new.result c.new.ensures b c.in_ok-found.ensures.found
-      c.in_ok-found.ensures.left in
-      let old = matching_sibling x (occurrence x o.seen) o.old in
-      let value : c.in_ok-remembered.remembered.value ≡ v = c.in_ok-remembered.ensures.value m v there
-      (λ u e. kept_is_calculated o.last.calculation c.args.level.now.depth c.args.cell.site ks c.in_ok-found.found old u
-      k.like k.there.cells (ap (λ (l : List Binding). kept_of c.in_ok-found.found (map (λ b. b.value) l))
-      (sym (c.in_ok-env.ensures.value m h)) ∙ e) ∙ sym (calc.0 m c.args.made.now.scope).0)
-      (ap (λ (r : Reading Value). r.value) ev) in
-      let made : what.Cell keys c.in_ok-remembered.remembered.value ≡ flat_kind w =
-      ap (λ (l : List Value). what.Cell l c.in_ok-remembered.remembered.value) keys_are
-      ∙ ap (λ (y : Value). what.Cell ks y) value in
-      let state = matched_state c.args.level.now.depth c.args.cell.site w (what.Cell keys c.in_ok-remembered.remembered.value) End
-      c.in_ok-found.found old c.args.made.now.writer c.enter_cell.new.self (g.V.View.asked c.remember.new.view)
-      c.remember.new.reads refl k.like made c.in_ok-enter_cell.ensures.entered in
-      let now = x ∷ o.seen in
-      let P : Value → Type 0 = λ y. ComposesBeside c.args.level.now.last.now.owed.objects o.old c.args.level.now.depth now
-      (body_forest m c.args.level.now.functions.now (stmts_view c.args.body.now)
-      (c.args.made.now.scope ++ new_binding c.args.name.now.text y ∷ []))
-      (state_of c.enter_cell.new.self (g.V.View.asked c.remember.new.view) c.remember.new.reads)
-      (state_of c.run_bound.new.made.writer (g.V.View.asked c.run_bound.new.view) c.run_bound.new.made.reads)
-      c.run_bound.new.made.pending c.run_bound.result in
-      let inner = subst P value (c.run_bound.ensures.ran m (at_now o now) (c.in_ok-remembered.ensures.same m there)
-      (beside_now now b k.fits) calc.1) in
-      beside_after _ _ (state_of c.args.made.now.writer (g.V.View.asked c.evaluate_keys.new.view)
-      c.evaluate_keys.new.reads) (same_state refl refl refl refl (c.in_ok-env.ensures.asks m h)
-      (c.in_ok-env.ensures.reads m h)) (beside_after _ _
-      (state_of c.args.made.now.writer (g.V.View.asked c.remember.new.view) c.remember.new.reads)
-      (same_state refl refl refl refl asks reads)
-      (beside_cell (state_of c.enter_cell.new.self (g.V.View.asked c.remember.new.view) c.remember.new.reads) state
-      inner));
 }
 
 -- A call.

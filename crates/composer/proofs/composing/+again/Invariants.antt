@@ -84,19 +84,11 @@ decreases-run_one g l = 8 * weight l.level.now.functions.now + 8 * stmt_size (st
 
 abbrev pub decreases-run_block : goal.decreases-run_block
 decreases-run_block g l =
-    8 * weight l.level.now.functions.now + 8 * body_size l.body.now + 8 + 3 * (most_groups - l.level.now.depth)
+    8 * weight l.level.now.functions.now + 8 * body_size l.body.now + 7 + 3 * (most_groups - l.level.now.depth)
 
 abbrev pub decreases-run_inside : goal.decreases-run_inside
 decreases-run_inside g l =
     8 * weight l.level.now.functions.now + 8 * body_size l.body.now + 5 + 3 * (most_groups - l.level.now.depth)
-
-abbrev pub decreases-run_node : goal.decreases-run_node
-decreases-run_node g l =
-    8 * weight l.level.now.functions.now + 8 * body_size l.body.now + 6 + 3 * (most_groups - l.level.now.depth)
-
-abbrev pub decreases-run_key : goal.decreases-run_key
-decreases-run_key g l =
-    8 * weight l.level.now.functions.now + 8 * body_size l.body.now + 6 + 3 * (most_groups - l.level.now.depth)
 
 abbrev pub decreases-run_if : goal.decreases-run_if
 decreases-run_if g l = 8 * weight l.level.now.functions.now + 8 * (body_size l.then_branch.now + body_size l.else_branch.now) + 5 + 3 * (most_groups - l.level.now.depth)
@@ -105,20 +97,8 @@ abbrev pub decreases-run_bound : goal.decreases-run_bound
 decreases-run_bound g l =
     8 * weight l.level.now.functions.now + 8 * body_size l.body.now + 5 + 3 * (most_groups - l.level.now.depth)
 
-abbrev pub decreases-run_let : goal.decreases-run_let
-decreases-run_let g l =
-    8 * weight l.level.now.functions.now + 8 * body_size l.body.now + 6 + 3 * (most_groups - l.level.now.depth)
-
 abbrev pub decreases-run_turns : goal.decreases-run_turns
 decreases-run_turns g l =
-    8 * weight l.level.now.functions.now + 8 * body_size l.body.now + 6 + 3 * (most_groups - l.level.now.depth)
-
-abbrev pub decreases-run_for : goal.decreases-run_for
-decreases-run_for g l =
-    8 * weight l.level.now.functions.now + 8 * body_size l.body.now + 7 + 3 * (most_groups - l.level.now.depth)
-
-abbrev pub decreases-run_remember : goal.decreases-run_remember
-decreases-run_remember g l =
     8 * weight l.level.now.functions.now + 8 * body_size l.body.now + 6 + 3 * (most_groups - l.level.now.depth)
 
 abbrev pub decreases-run_arguments : goal.decreases-run_arguments
