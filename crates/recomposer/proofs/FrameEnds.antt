@@ -12,7 +12,7 @@ use Rattle.recomposer.specs.AppliedFrames.{Applies, kept_after_fault, ops_of}
 use Rattle.recomposer.specs.Compositions.{IsAt}
 use Rattle.recomposer.specs.FrameContracts.{KeepsSettings, frame_result}
 use Rattle.recomposer.specs.FrameEnds.{InFrames, AreCalls, KeepsGroups, IsReport, EndsComposed}
-use Rattle.recomposer.proofs.Frames.{no_calls, frame_applies, none_applies, idle_applies, detached_after}
+use Rattle.recomposer.proofs.Frames.{has_result, no_calls, frame_applies, none_applies, idle_applies, detached_after}
 use Rattle.recomposer.proofs.Stops.{good_not_err, memory_not_fault, memory_not_many, memory_not_spent, fault_not_many, fault_not_spent}
 
 -- A draft is there.
@@ -29,6 +29,7 @@ ends_without_memory c composed tree tree' faults faults' untouched same counted 
   report = λ k m h made. tt;
   applied = λ k m h made. tt;
   fault = λ k m h made stop. memory_not_fault stop;
+  made = λ k m h made stop. memory_not_fault stop;
   err = refl;
   still = same;
   cause = record { later = omega (arith, counted); failed = λ stop. memory_not_fault stop };
@@ -57,6 +58,7 @@ module _ (c c' : Composition) (composed : Option DraftGroups) (tree tree' : Opti
     report = told;
     applied = applied;
     fault = λ k m h made stop. good_not_err stop;
+    made = λ k m h made stop. good_not_err stop;
     err = tt;
     still = tt;
     cause = record { later = later; failed = λ stop. good_not_err stop };
@@ -119,6 +121,7 @@ ends_with_fault c c' d tree tree' faults faults' untouched ops settings lent fau
   report = λ k m h made. tt;
   applied = λ k m h made. tt;
   fault = λ k m h made stop. fault k m h made;
+  made = λ k m h made stop. has_result c k m d made.1;
   err = tt;
   still = tt;
   cause = record { later = later; failed = λ stop. rose };

@@ -298,11 +298,13 @@ made_frame p p' k at_frame last does applies told same made =
 
 -- A frame of the same program that was not made.
 pub made_no_frame : (p p' : Program) (k : LastFrame) (at_frame : LastFrame → Option Map → Type 0)
-    (last : Option Map → Type 0) (old new : Option (List Entry)) (caller watcher : ℕ) (stop : FrameStop) → p' ≡ p →
-    MakesNoFrame p' k at_frame last (LogsNoFrame p' k old new caller watcher) stop
-    → MakesNoFrame p k at_frame last (LogsNoFrame p k old new caller watcher) stop
-made_no_frame p p' k at_frame last old new caller watcher stop same made =
-    subst (λ (q : Program). MakesNoFrame q k at_frame last (LogsNoFrame q k old new caller watcher) stop) same made
+    (last : Option Map → Type 0) (does : List ℕ → Type 0) (old new : Option (List Entry)) (caller watcher : ℕ)
+    (stop : FrameStop) → p' ≡ p →
+    MakesNoFrame p' k at_frame last does (LogsNoFrame p' k old new caller watcher) stop
+    → MakesNoFrame p k at_frame last does (LogsNoFrame p k old new caller watcher) stop
+made_no_frame p p' k at_frame last does old new caller watcher stop same made =
+    subst (λ (q : Program). MakesNoFrame q k at_frame last does (LogsNoFrame q k old new caller watcher) stop) same
+    made
 
 -- The calls of a frame.
 
@@ -313,6 +315,12 @@ tree_follows c k m h = (next_follows c.program.now k (Some m) m c.owed h.checked
 
 pub none_kept : (c : Composition) (k : LastFrame) (l : Option Map) → IsAt c k l → is_detached k ≡ true → k.trail ≡ End
 none_kept c k l h e = nothing_is_kept c.program.now k l c.owed h.owes e
+
+-- A composed frame has a result.
+pub has_result : (c : Composition) (k : LastFrame) (m : Map) (d : DraftGroups)
+    → how_many (forest (functions_of c.program.now) (root_of c.program.now) m) ≤ most_groups
+    → frame (functions_of c.program.now) k m ≡ None → ⊥
+has_result c k m d few none = let both = sym none ∙ good_is c.program.now k m few in cc
 
 pub no_calls : (calls : List Op) → length calls ≡ 0 → calls ≡ []
 no_calls [] none = refl

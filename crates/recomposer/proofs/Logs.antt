@@ -1,5 +1,5 @@
 -- The log and the world after a frame.
-use Rattle.std.proofs.Common.{◌≡◌, ℕ, ◌<◌, List, [], ◌∷◌, ◌++◌, refl, sym, ap, ◌∙◌, subst, Option, Some, None, Result, Ok, Err, IsOk, OnOk, append_assoc}
+use Rattle.std.proofs.Common.{◌≡◌, ℕ, ◌<◌, List, [], ◌∷◌, ◌++◌, inl, inr, refl, sym, ap, ◌∙◌, subst, Option, Some, None, Result, Ok, Err, IsOk, OnOk, append_assoc}
 use Rattle.std.proofs.lemmas.List.{append_cancel_left}
 use Rattle.snap_policy.specs.Rules.{Rules}
 use Rattle.snap_api.proofs.Takes.{call-TakeFor}
@@ -11,9 +11,12 @@ use Rattle.snap_api.specs.declared.data.Refusal.{Refusal}
 use Rattle.snap_api.specs.declared.data.Reply.TheVariants as reply
 use Rattle.snap_api.specs.declared.data.Request.TheVariants as request
 use Rattle.rt_values.specs.Maps.{Map}
+use Rattle.rt_groups.specs.Frames.{LastFrame}
+use Rattle.lang_ast.specs.declared.program.Program.{Program}
 use Rattle.rt_values.specs.Views.{Grew}
 use Rattle.recomposer.specs.declared.composition.FrameStop.{FrameStop}
-use Rattle.recomposer.specs.Compositions.{EndsFrame, EndsPart, ClosesFrame, LogsFrame, MakesReads, PartOfFrame, world_of_frame}
+use Rattle.recomposer.specs.declared.composition.FrameStop.TheVariants.{TooManyGroups, ApplierFault, Spent, NoMemory}
+use Rattle.recomposer.specs.Compositions.{EndsFrame, EndsPart, ClosesFrame, LogsBegunFrame, LogsFrame, LogsNoFrame, MakesReads, PartOfFrame, refused_take, world_of_frame}
 
 -- The dispose after reads always succeeds, because reads change no world.
 pub always_disposed : {P U : Type 0} (rules : Rules P) (before mid after : World P → Type 0) (caller later name : ℕ)
@@ -116,6 +119,23 @@ part_of_frame old mid new caller later watcher name changed all logs same e =
       is = e.is;
       logs = whole_frame old mid new caller later watcher name changed e.xs logs same e.ends;
     }
+
+-- The log after a frame that has begun, and after one that has not.
+module _ (p : Program) (k : LastFrame) (old new : Option (List Entry)) (caller watcher : ℕ) where
+  pub log_begun : (stop : FrameStop) (last : Option Map) → (stop ≡ Spent → ⊥)
+      → LogsBegunFrame p k old new caller watcher last → LogsNoFrame p k old new caller watcher stop last
+  log_begun TooManyGroups last not_spent h = h
+  log_begun ApplierFault last not_spent h = h
+  log_begun Spent last not_spent h = absurd (not_spent refl)
+  log_begun NoMemory last not_spent h = inr h
+
+  pub log_not_begun : (stop : FrameStop) (last : Option Map) → (stop ≡ TooManyGroups → ⊥)
+      → (stop ≡ ApplierFault → ⊥) → Logs old new caller (request.TakeFor watcher) (refused_take stop)
+      → LogsNoFrame p k old new caller watcher stop last
+  log_not_begun TooManyGroups last few no_fault h = absurd (few refl)
+  log_not_begun ApplierFault last few no_fault h = absurd (no_fault refl)
+  log_not_begun Spent last few no_fault h = h
+  log_not_begun NoMemory last few no_fault h = inl h
 
 -- The log after a good frame, with what was read.
 pub makes_reads : {T : Type 0} (shows : Map → Type 0) (old mid new : Option (List Entry)) (asked asked' last : List ℕ)

@@ -1,5 +1,5 @@
 -- The contract of a frame in the shown map, from what it composed.
-use Rattle.std.proofs.Common.{◌≡◌, ℕ, ◌<◌, List, [], ◌++◌, refl, ◌∙◌, subst, append-nil, Option, Some, None, Result, Ok, Err, IfOk, OnOk, IsOk}
+use Rattle.std.proofs.Common.{◌≡◌, ℕ, ◌<◌, List, [], ◌++◌, refl, ap, ◌∙◌, subst, append-nil, Option, Some, None, Result, Ok, Err, IfOk, OnOk, IsOk}
 use Rattle.rt_values.specs.Maps.{Map}
 use Rattle.rt_values.specs.Views.{Grew}
 use Rattle.rt_groups.specs.declared.report.Report.{Report}
@@ -21,7 +21,7 @@ use Rattle.recomposer.specs.AppliedFrames.{OwesNothing}
 use Rattle.recomposer.specs.Composed.{IsComposed}
 use Rattle.recomposer.specs.Compositions.{IsAt, frame_reads, EndsFrame, EndsPart, OwesNoCall, seen_again}
 use Rattle.recomposer.specs.FrameContracts.{frame_result, InShownFrames, KeepsSettings, ComposesShown, LeavesApplier, DrivesApplier, AsksOwed, LogsEnd, IsSameDesk}
-use Rattle.recomposer.specs.FrameEnds.{KeepsGroups, IsReport, EndsComposed}
+use Rattle.recomposer.specs.FrameEnds.{AsksComposed, KeepsGroups, IsReport, EndsComposed}
 use Rattle.recomposer.proofs.Draws.{grows_finish}
 use Rattle.recomposer.proofs.Frames.{grew_in_all}
 use Rattle.recomposer.proofs.Logs.{closes, ends_of, ends_part, is_disposed}
@@ -32,7 +32,7 @@ use Rattle.recomposer.proofs.Stops.{stops, goods, on_ok, on_err, on_good, same_s
 module _ (c : Composition) (shows : Map → Type 0) (asked asked' : List ℕ) where
   pub asks_all : {U : Type 0} (E : Type 0) (u : U)
       → InShownFrames c shows (λ k m. asked' ≡ asked ++ frame_reads c.program.now k m)
-      → AsksOwed c shows asked asked' (goods E u)
+      → AsksComposed c shows asked asked' (goods E u)
   asks_all E u all = record {
     asks = all;
     part = λ k m h s. tt;
@@ -41,11 +41,11 @@ module _ (c : Composition) (shows : Map → Type 0) (asked asked' : List ℕ) wh
 
   pub asks_part : {E : Type 0} (U : Type 0) (e : E)
       → InShownFrames c shows (λ k m. Grew asked asked' (frame_reads c.program.now k m))
-      → AsksOwed c shows asked asked' (stops U e)
+      → AsksComposed c shows asked asked' (stops U e)
   asks_part U e part = record { asks = λ k m h s. tt; part = part; quiet = λ k m h s q. tt }
 
   -- After the reads of a good frame, with any result.
-  pub asks_on : {U E V F : Type 0} (u : U) (r : Result V F) → AsksOwed c shows asked asked' (goods E u)
+  pub asks_on : {U E V : Type 0} (u : U) (r : Result V FrameStop) → AsksComposed c shows asked asked' (goods E u)
       → AsksOwed c shows asked asked' r
   asks_on u r a = record {
     asks = λ k m h s. on_ok r (a.asks k m h s);
@@ -53,17 +53,23 @@ module _ (c : Composition) (shows : Map → Type 0) (asked asked' : List ℕ) wh
         let all : Grew asked asked' (frame_reads c.program.now k m) =
         record { rest = []; is = append-nil asked' ∙ a.asks k m h s } in
         on_err r all;
+    fault = λ k m h s e. a.asks k m h s;
     quiet = λ k m h s q. on_ok r (a.quiet k m h s q);
   }
 
-  -- The reads of a frame that stopped, with the reason of a later step.
-  pub asks_refused : {U E F : Type 0} (V : Type 0) (e : E) (f : F) → AsksOwed c shows asked asked' (stops U e)
-      → AsksOwed c shows asked asked' (stops V f)
-  asks_refused V e f a = record { asks = λ k m h s. tt; part = a.part; quiet = λ k m h s q. tt }
+  -- The reads of a frame that stopped before its applier was called, with the reason of a later step.
+  pub asks_refused : {U E : Type 0} (V : Type 0) (e : E) (f : FrameStop) → (f ≡ ApplierFault → ⊥)
+      → AsksComposed c shows asked asked' (stops U e) → AsksOwed c shows asked asked' (stops V f)
+  asks_refused V e f no_fault a = record {
+    asks = λ k m h s. tt;
+    part = a.part;
+    fault = λ k m h s stop. absurd (no_fault (same_stop stop));
+    quiet = λ k m h s q. tt;
+  }
 
   -- The reads of a frame, after a step that reads nothing and may stop.
   pub asks_then : {U E F : Type 0} (X : Type 0) (last : List ℕ) (r : Result U E) (r' : Result U F) → last ≡ asked'
-      → IfOk r' (λ u. (r ≡ Ok u) × X) → AsksOwed c shows asked asked' r → AsksOwed c shows asked last r'
+      → IfOk r' (λ u. (r ≡ Ok u) × X) → AsksComposed c shows asked asked' r → AsksComposed c shows asked last r'
   asks_then X last r (Ok u) same is a = record {
     asks = λ k m h s. same ∙ on_good r u is.0 (a.asks k m h s);
     part = λ k m h s. tt;
@@ -93,6 +99,7 @@ module _ (c c' : Composition) (shows : Map → Type 0) where
     report = λ k m h s. ends.report k m h (made k m h s);
     many = λ k m h s e. absurd (ends.few e);
     fault = λ k m h s e. ends.fault k m h (made k m h s) e;
+    made = λ k m h s. ends.made k m h (made k m h s);
     detached = λ k m h s e. ends.detached k m h (made k m h s) e;
     quiet = λ k m h s q. quiet_stays result k m h q (ends.good k m h (made k m h s));
     err = ends.err;
@@ -108,6 +115,7 @@ module _ (c c' : Composition) (shows : Map → Type 0) where
     report = λ k m h s. told k m h (made k m h s);
     many = λ k m h s e. good_not_err e;
     fault = λ k m h s e. good_not_err e;
+    made = λ k m h s e. good_not_err e;
     detached = λ k m h s e. good_not_err e;
     quiet = λ k m h s q. quiet_kept c.program.now k m (quiet_at c k m h q) c' (good k m h (made k m h s));
     err = tt;
@@ -124,6 +132,7 @@ shown_refused c shows stop many not_spent no_fault = record {
   report = λ k m h s. tt;
   many = λ k m h s e. many k m h s (same_stop e);
   fault = λ k m h s e. absurd (no_fault (same_stop e));
+  made = λ k m h s e. absurd (no_fault (same_stop e));
   detached = λ k m h s e. absurd (no_fault (same_stop e));
   quiet = λ k m h s q. tt;
   err = unless_fault {U = Report} {X = c ≡ c} (Err stop) refl;
@@ -176,7 +185,7 @@ module _ {A : Type 0} (tree : A → Option CursorTree) (faults : A → ℕ) wher
 module _ {U E V : Type 0} (c : Composition) (shows : Map → Type 0) (old mid new : Option (List Entry))
     (asked asked' last : List ℕ) (caller later name : ℕ) (opened : Option ℕ) (r : Result U E) (d : Result V Refusal)
     (a : AskedAndLogged asked asked' old mid caller opened) (is : opened ≡ Some name) (same : last ≡ asked')
-    (called : later ≡ caller) (reads : AsksOwed c shows asked asked' r)
+    (called : later ≡ caller) (reads : AsksComposed c shows asked asked' r)
     (logs : Logs mid new later (request.Dispose name) (dispose_reply d))
     (good : (m : Map) → shows m → 0 < name → IsOk d) where
   disposed : (q : Result U FrameStop) → IfOk q (λ u. (r ≡ Ok u) × IsOk d) → OnOk q (dispose_reply d ≡ reply.Disposed)
@@ -191,14 +200,15 @@ module _ {U E V : Type 0} (c : Composition) (shows : Map → Type 0) (old mid ne
       (subst (λ (y : Reply). Logs mid new later (request.Dispose name) y) (is_disposed d both.1) logs)
   logged k m h s (Err e) both = tt
 
-  pub logs_end : (q : Result U FrameStop) → IfOk q (λ u. (r ≡ Ok u) × IsOk d)
+  pub logs_end : (q : Result U FrameStop) → IfOk q (λ u. (r ≡ Ok u) × IsOk d) → (q ≡ Err ApplierFault → ⊥)
       → LogsEnd c shows asked last old new (caller, name) q
-  logs_end q both = record {
+  logs_end q both no_fault = record {
     log = λ k m h s. logged k m h s q both;
     refused = λ k m h s inner. on_err q (ends_part old mid new asked asked' (frame_reads c.program.now k m) caller later
         name opened d a is
         (grew_in_all r asked asked' asked' (frame_reads c.program.now k m) refl (reads.asks k m h s) (reads.part k m h s))
         called (good m s inner) logs);
+    fault = λ k m h s e. absurd (no_fault e);
     closed = closes shows old mid new asked asked' last caller later name opened d q a is same called logs
         (disposed q both) good;
     draws = λ n. grows_finish n old mid new asked asked' caller later name opened (dispose_reply d) a logs;
@@ -220,6 +230,7 @@ module _ (c : Composition) (shows : Map → Type 0) (asked asked' : List ℕ) (o
           ends = l.log k m h s;
         } in
         on_err result all;
+    fault = λ k m h s e. l.log k m h s;
     closed = record {
       xs = l.closed.xs;
       asks = l.closed.asks;
@@ -233,12 +244,16 @@ module _ (c : Composition) (shows : Map → Type 0) (asked asked' : List ℕ) (o
     draws = l.draws;
   }
 
+  same_reason : {U T : Type 0} {a b : FrameStop} → stops T a ≡ Err b → stops U a ≡ Err b
+  same_reason e = ap Err (same_stop e)
+
   pub logs_refused : {U : Type 0} (T : Type 0) (stop : FrameStop)
       → LogsEnd c shows asked asked' old new snapshot (stops U stop)
       → LogsEnd c shows asked asked' old new snapshot (stops T stop)
   logs_refused T stop l = record {
     log = λ k m h s. tt;
     refused = l.refused;
+    fault = λ k m h s e. l.fault k m h s (same_reason e);
     closed = record {
       xs = l.closed.xs;
       asks = l.closed.asks;

@@ -197,13 +197,23 @@ pub record PartOfFrame (old new : Option (List Entry)) (caller watcher : ℕ) (a
   pub is : xs ++ rest ≡ all
   pub logs : LogsFrame old new caller watcher xs
 
--- What a frame that was not made adds to a log, `last` being the watcher's last map then: the refusal of its take, or
--- the take, a first part of the reads that the frame owes in this map, and the dispose.
+-- What a frame that has begun and was not made adds to a log, `last` being the watcher's last map then: the take, a
+-- first part of the reads that the frame owes in this map, and the dispose.
+abbrev pub LogsBegunFrame : Program → LastFrame → Option (List Entry) → Option (List Entry) → ℕ → ℕ → Option Map
+    → Type 0
+LogsBegunFrame p k old new caller watcher last =
+    (m : Map) × (last ≡ Some m) × PartOfFrame old new caller watcher (frame_reads p k m)
+
+-- What a frame that was not made adds to a log. Without a good take it stopped for the clock, and the log has the
+-- refusal, or it was out of memory. All other frames have begun.
 abbrev pub LogsNoFrame : Program → LastFrame → Option (List Entry) → Option (List Entry) → ℕ → ℕ → FrameStop
     → Option Map → Type 0
-LogsNoFrame p k old new caller watcher stop last =
-    Logs old new caller (TakeFor watcher) (refused_take stop)
-    ⊎ ((m : Map) × (last ≡ Some m) × PartOfFrame old new caller watcher (frame_reads p k m))
+LogsNoFrame p k old new caller watcher Spent last = Logs old new caller (TakeFor watcher) (refused_take Spent)
+LogsNoFrame p k old new caller watcher NoMemory last =
+    Logs old new caller (TakeFor watcher) (refused_take NoMemory)
+    ⊎ LogsBegunFrame p k old new caller watcher last
+LogsNoFrame p k old new caller watcher TooManyGroups last = LogsBegunFrame p k old new caller watcher last
+LogsNoFrame p k old new caller watcher ApplierFault last = LogsBegunFrame p k old new caller watcher last
 
 -- A frame was made in the map `map` after the kept state `k`: `at_frame` and `last` say what is kept and which map is
 -- the watcher's last one, `told` is the report, `does` says what the frame's reads did, and `applies` what the applier
@@ -219,17 +229,26 @@ pub record MakesFrame (p : Program) (k : LastFrame) (at_frame : LastFrame → Op
   pub applied : applies (frame (functions_of p) k map)
   pub quiet : OwesNoCall k map → ChangesNothing p k map
 
+-- The frame of the watcher's last map `last` had a result, and `does` says what its reads did.
+pub record HadResult (p : Program) (k : LastFrame) (does : List ℕ → Type 0) (last : Option Map) : Type 0 where
+  pub map : Map
+  pub is : last ≡ Some map
+  pub made : frame (functions_of p) k map ≡ None → ⊥
+  pub done : does (frame_reads p k map)
+
 -- A frame was not made: the kept state stays, except after a fault of the applier, and what changed up to the watcher's
 -- last map is owed. `logs` says what the log is then. If there are too many groups, the frame of that map has no
--- result. A frame with a fault of the applier has begun, and the composition is detached after it.
+-- result. A frame with a fault of the applier had a result, `does` says what its reads did, and the composition is
+-- detached after it.
 pub record MakesNoFrame (p : Program) (k : LastFrame) (at_frame : LastFrame → Option Map → Type 0)
-    (last : Option Map → Type 0) (logs : FrameStop → Option Map → Type 0) (stop : FrameStop) : Type 0 where
+    (last : Option Map → Type 0) (does : List ℕ → Type 0) (logs : FrameStop → Option Map → Type 0)
+    (stop : FrameStop) : Type 0 where
   pub map : Option Map
   pub is_at : at_frame (kept_after_stop p k map stop) map
   pub is_last : last map
   pub log_is : logs stop map
   pub many : stop ≡ TooManyGroups → (m : Map) × (map ≡ Some m) × (frame (functions_of p) k m ≡ None)
-  pub fault : stop ≡ ApplierFault → (m : Map) × (map ≡ Some m)
+  pub fault : stop ≡ ApplierFault → HadResult p k does map
   pub detached : stop ≡ ApplierFault → is_detached (kept_after_stop p k map stop) ≡ true
 
 -- The world after a frame: after its take and its dispose. The reads change no world.

@@ -66,6 +66,9 @@ pub record ComposesShown (c c' : Composition) (shows : Map → Type 0) (result :
   -- A fault of the applier keeps nothing except the number of the next new node.
   pub fault : InShownFrames c shows (λ k m. result ≡ Err ApplierFault
       → IsAt c' (kept_after_fault k (frame_result c.program.now k m)) (Some m))
+  -- A frame with a fault of the applier had a result.
+  pub made : InShownFrames c shows
+      (λ k m. result ≡ Err ApplierFault → frame_result c.program.now k m ≡ None → ⊥)
   -- A fault of the applier detaches the composition from the applier's tree.
   pub detached : InShownFrames c shows (λ k m. result ≡ Err ApplierFault
       → is_detached (kept_after_fault k (frame_result c.program.now k m)) ≡ true)
@@ -104,12 +107,15 @@ pub record DrivesApplier {A : Type 0} (tree : A → Option CursorTree) (faults :
   pub leaves : LeavesApplier tree faults old new c c' result
 
 -- The list of reads grew from `asked` to `asked'` by what a frame of the composition owes in the shown map.
-pub record AsksOwed {U E : Type 0} (c : Composition) (shows : Map → Type 0) (asked asked' : List ℕ)
-    (result : Result U E) : Type 0 where
+pub record AsksOwed {U : Type 0} (c : Composition) (shows : Map → Type 0) (asked asked' : List ℕ)
+    (result : Result U FrameStop) : Type 0 where
   -- A good frame reads what it owes.
   pub asks : InShownFrames c shows (λ k m. OnOk result (asked' ≡ asked ++ frame_reads c.program.now k m))
   -- Another frame reads a first part of that.
   pub part : InShownFrames c shows (λ k m. OnErr result (Grew asked asked' (frame_reads c.program.now k m)))
+  -- A frame with a fault of the applier read all of that.
+  pub fault : InShownFrames c shows
+      (λ k m. result ≡ Err ApplierFault → asked' ≡ asked ++ frame_reads c.program.now k m)
   -- A good frame that owes no call reads nothing.
   pub quiet : InShownFrames c shows (λ k m. OwesNoCall k m → OnOk result (asked' ≡ asked))
 
@@ -123,6 +129,9 @@ pub record LogsEnd {U : Type 0} (c : Composition) (shows : Map → Type 0) (aske
   -- Another frame adds a first part of these reads and the dispose.
   pub refused : InShownFrames c shows (λ k m. 0 < snapshot.1
       → OnErr result (EndsPart old new snapshot.0 snapshot.1 (frame_reads c.program.now k m)))
+  -- A frame with a fault of the applier adds all these reads and the dispose.
+  pub fault : InShownFrames c shows (λ k m. result ≡ Err ApplierFault
+      → EndsFrame old new snapshot.0 snapshot.1 (frame_reads c.program.now k m))
   -- Any frame adds the reads by which the list grew, and the dispose with some reply.
   pub closed : ClosesFrame shows asked asked' old new snapshot.0 snapshot.1 result
   -- The end of a frame takes for no watcher.
@@ -152,6 +161,14 @@ pub record BeginsShown (c c' : Composition) (shows : Map → Type 0) (last last'
       (λ k types l. IfOk result (λ b. BeginsFrame (IsAt c' k) shows (last' types) l b.name b.changed))
   -- A refused one keeps the watcher's last map.
   pub stays : (types : List Ty) (l : Option Map) → last types l → alone → OnErr result (last' types l)
+
+-- A frame that begins well shows its snapshot from now on. One that does not begin leaves the snapshot that the desk
+-- showed, and the map.
+pub record OpensSnapshot (opened opened' : Option ℕ) (shows shows' : Map → Type 0)
+    (result : Result Begun FrameStop) : Type 0 where
+  pub name : IfOk result (λ b. opened' ≡ Some b.name)
+  pub kept : OnErr result (opened' ≡ opened)
+  pub still : (m : Map) → shows m → OnErr result (shows' m)
 
 -- A frame that does not begin changes nothing, and stops neither for its groups nor for a fault of the applier.
 pub record StopsBefore {U : Type 0} (c c' : Composition) (result : Result U FrameStop) : Type 0 where

@@ -1,7 +1,8 @@
 -- Internal: what a composed frame leaves in the composition and in the applier.
-use Rattle.std.specs.Prelude.{◌≡◌, ℕ, List, [], true, Option, Some, None, Result, Err, IfOk, OnOk, OnErr}
+use Rattle.std.specs.Prelude.{◌≡◌, ℕ, List, [], ◌++◌, true, Option, Some, None, Result, Err, IfOk, OnOk, OnErr}
 use Rattle.std.specs.Option.{option_map}
 use Rattle.rt_values.specs.Maps.{Map}
+use Rattle.rt_values.specs.Views.{Grew}
 use Rattle.rt_groups.specs.declared.report.Report.{Report}
 use Rattle.rt_groups.specs.Frames.{LastFrame, is_detached}
 use Rattle.compose_model.specs.Frame.{kept_after}
@@ -13,7 +14,7 @@ use Rattle.recomposer.specs.declared.composition.FrameStop.{FrameStop}
 use Rattle.recomposer.specs.declared.composition.FrameStop.TheVariants.{TooManyGroups, ApplierFault, Spent}
 use Rattle.recomposer.specs.AppliedFrames.{Applies, UnlessFault, FaultHasCause, kept_after_fault, ops_of}
 use Rattle.recomposer.specs.Composed.{IsComposed}
-use Rattle.recomposer.specs.Compositions.{IsAt}
+use Rattle.recomposer.specs.Compositions.{IsAt, frame_reads, OwesNoCall}
 use Rattle.recomposer.specs.FrameContracts.{InShownFrames, KeepsSettings, frame_result}
 
 -- `fact` holds of the kept state and the map of each frame of the composition `c` that composed `composed`.
@@ -34,6 +35,15 @@ KeepsGroups c composed c' =
 abbrev pub IsReport : Composition → Option DraftGroups → Report → Type 0
 IsReport c composed report =
     InFrames c composed (λ k m. Some report ≡ option_map (λ g. g.told) (frame_result c.program.now k m))
+
+-- The list of reads grew from `asked` to `asked'` by what a frame of the composition `c` that was composed owes in the
+-- shown map: all of it if it was composed well, and a first part of it if not. A frame that was composed well and owes
+-- no call read nothing.
+pub record AsksComposed {U E : Type 0} (c : Composition) (shows : Map → Type 0) (asked asked' : List ℕ)
+    (result : Result U E) : Type 0 where
+  pub asks : InShownFrames c shows (λ k m. OnOk result (asked' ≡ asked ++ frame_reads c.program.now k m))
+  pub part : InShownFrames c shows (λ k m. OnErr result (Grew asked asked' (frame_reads c.program.now k m)))
+  pub quiet : InShownFrames c shows (λ k m. OwesNoCall k m → OnOk result (asked' ≡ asked))
 
 -- A frame in the shown map stopped before the applier was called: neither for the clock nor for a fault of the applier,
 -- and for its groups only if it has too many.
@@ -56,6 +66,7 @@ pub record EndsComposed (c c' : Composition) (composed : Option DraftGroups) (tr
       (λ k m. OnOk result (Applies tree tree' c'.ops k (frame_result c.program.now k m)))
   pub fault : InFrames c composed (λ k m. result ≡ Err ApplierFault
       → IsAt c' (kept_after_fault k (frame_result c.program.now k m)) (Some m))
+  pub made : InFrames c composed (λ k m. result ≡ Err ApplierFault → frame_result c.program.now k m ≡ None → ⊥)
   pub err : UnlessFault (c' ≡ c) result
   pub still : UnlessFault (tree' ≡ tree) result
   pub cause : FaultHasCause faults faults' result

@@ -14,8 +14,8 @@ ghost use Rattle.recompose_scopes.specs.Scopes.{AreScopesOf, own_reads};
 ghost use Rattle.recomposer.specs.AppliedFrames.{MayCall, Applies, OwesNothing, kept_after_fault, ops_of};
 ghost use Rattle.recomposer.specs.Composed.{IsComposed, IsForHeld};
 ghost use Rattle.recomposer.specs.Compositions.{IsAt, StopsAtEnd, GrowsFor, MakesFrame, MakesNoFrame, LogsNoFrame, world_of_frame};
-ghost use Rattle.recomposer.specs.FrameContracts.{frame_result, InShownFrames, InWatchedFrames, KnowsLast, KeepsSettings, KeepsCalls, ComposesShown, LeavesApplier, DrivesApplier, AsksOwed, LogsEnd, IsSameDesk, KeepsDesk, BeginsShown, StopsBefore, CallsAndLogs, RepliesToTake, ReadsInFrame, LogsCalls};
-ghost use Rattle.recomposer.specs.FrameEnds.{InFrames, AreCalls, KeepsGroups, IsReport, StopsUncomposed, EndsComposed};
+ghost use Rattle.recomposer.specs.FrameContracts.{frame_result, InShownFrames, InWatchedFrames, KnowsLast, KeepsSettings, KeepsCalls, ComposesShown, LeavesApplier, DrivesApplier, AsksOwed, LogsEnd, IsSameDesk, KeepsDesk, BeginsShown, StopsBefore, CallsAndLogs, RepliesToTake, OpensSnapshot, ReadsInFrame, LogsCalls};
+ghost use Rattle.recomposer.specs.FrameEnds.{InFrames, AsksComposed, AreCalls, KeepsGroups, IsReport, StopsUncomposed, EndsComposed};
 
 use composer::{ComposeStop, Draft, Held, Owed, compose};
 use lang_checks::Checked;
@@ -200,7 +200,8 @@ impl<'p> Composition<'p> {
     }
 
     /// Begins a frame: takes its snapshot, and marks the states that changed since the last frame as owed. Fails with
-    /// `Spent` exactly if the world's clock is at its limit, or out of memory, and then changes nothing.
+    /// `Spent` exactly if the world's clock is at its limit, or out of memory, and then changes nothing. The desk then
+    /// shows the same snapshot as before.
     pub fn begin<D: Desk>(&mut self, alloc: Global, desk: &mut D) -> Result<Begun, FrameStop>
         ensures frame { BeginsShown self.old self.new (D.shows desk.new) (D.last desk.old self.old.watcher)
             (D.last desk.new self.old.watcher) (D.alone desk.new self.old.watcher) result }
@@ -211,7 +212,8 @@ impl<'p> Composition<'p> {
             (KnowsLast (D.last desk.old self.old.watcher) (D.alone desk.new self.old.watcher)) result }
         ensures draws { GrowsFor self.old.watcher (D.log desk.old) (D.log desk.new) }
         ensures calls { KeepsCalls self.old self.new }
-        ensures name { IfOk result (λ b. D.opened desk.new ≡ Some b.name) }
+        ensures opened { OpensSnapshot (D.opened desk.old) (D.opened desk.new) (D.shows desk.old) (D.shows desk.new)
+            result }
         ensures desk { IsSameDesk D.lends D.alone D.caller desk.old desk.new }
         ensures asks { D.asked desk.new ≡ D.asked desk.old }
     {
@@ -251,7 +253,7 @@ impl<'p> Composition<'p> {
         ensures made { InShownFrames self.now (V.shows view.old) (λ k m. IfOk result (IsComposed self.now k m)) }
         ensures many { InShownFrames self.now (V.shows view.old)
             (λ k m. result ≡ Err ComposeStop.TooManyGroups → frame_result self.now.program.now k m ≡ None) }
-        ensures reads { AsksOwed self.now (V.shows view.old) (V.asked view.old) (V.asked view.new) result }
+        ensures reads { AsksComposed self.now (V.shows view.old) (V.asked view.old) (V.asked view.new) result }
         ensures idle { OwesNothing self.now → (result ≡ Ok None) × (view.new ≡ view.old) × (steps.new ≡ steps.old) }
         ensures olds { IfOk result (λ composed. IsForHeld self.now composed) }
     {
@@ -277,7 +279,7 @@ impl<'p> Composition<'p> {
         ensures made { InShownFrames self.now (D.shows desk.old) (λ k m. IfOk result (IsComposed self.now k m)) }
         ensures stops { StopsUncomposed self.now (D.shows desk.old) result }
         ensures olds { IfOk result (IsForHeld self.now) }
-        ensures reads { AsksOwed self.now (D.shows desk.old) (D.asked desk.old) (D.asked desk.new) result }
+        ensures reads { AsksComposed self.now (D.shows desk.old) (D.asked desk.old) (D.asked desk.new) result }
         ensures idle { OwesNothing self.now → IfOk result (λ composed. composed ≡ None)
             × (D.asked desk.new ≡ D.asked desk.old) × (steps.new ≡ steps.old) }
         ensures world { (m : Map) → D.shows desk.old m → 0 < begun.name →
@@ -516,7 +518,7 @@ impl<'p> Composition<'p> {
     /// nothing. A frame in which no kept call read a changed state runs no call and reads nothing. Neither calls the
     /// applier. All memory is taken before the first call on the applier. The snapshot is disposed after a failure too.
     ///
-    /// Fails like `recompose_with`.
+    /// Fails like `recompose_with`. After `ApplierFault` the reads and the log are those of a good frame.
     pub fn finish<D: Desk, A: Applier, L: Ledger>(
         &mut self,
         alloc: Global,
@@ -550,7 +552,7 @@ impl<'p> Composition<'p> {
     ///
     /// Fails like `begin` and `finish`, with `Spent` exactly if the world's clock is at its limit. What is kept stays
     /// then except after `ApplierFault`, and what is owed stays owed. An applier that knows its tree needs a desk on
-    /// which no one else takes for the watcher, as one over a borrowed world.
+    /// whose world no one else takes for the watcher from now on, as one over a borrowed world.
     pub fn frame<D: Desk, A: Applier, L: Ledger>(
         &mut self,
         alloc: Global,
@@ -559,7 +561,8 @@ impl<'p> Composition<'p> {
         steps: &mut Steps<L>,
     ) -> Result<Report, FrameStop>
         requires tree { MayCall (A.tree applier.old) (λ k. (types : List Ty) × (l : Option Map) × IsAt self.old k l
-            × D.last desk.old self.old.watcher types l × ((d : D) → D.alone d self.old.watcher)) }
+            × D.last desk.old self.old.watcher types l
+            × ((d : D) → D.lends desk.old d → D.alone d self.old.watcher)) }
         ensures good { InWatchedFrames self.old (D.last desk.old self.old.watcher) (D.alone desk.new self.old.watcher)
             (λ k types l. IfOk result (MakesFrame self.old.program.now k (IsAt self.new)
             (D.last desk.new self.old.watcher types)
@@ -569,6 +572,8 @@ impl<'p> Composition<'p> {
         ensures err { InWatchedFrames self.old (D.last desk.old self.old.watcher) (D.alone desk.new self.old.watcher)
             (λ k types l. IfErr result (MakesNoFrame self.old.program.now k (IsAt self.new)
             (D.last desk.new self.old.watcher types)
+            (ReadsInFrame (D.asked desk.old) (D.asked desk.new) (D.log desk.old) (D.log desk.new)
+            (D.caller desk.old) self.old.watcher)
             (LogsNoFrame self.old.program.now k (D.log desk.old) (D.log desk.new) (D.caller desk.old)
             self.old.watcher))) }
         ensures applier { LeavesApplier A.tree A.faults applier.old applier.new self.old self.new result }

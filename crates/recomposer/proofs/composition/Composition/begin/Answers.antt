@@ -27,6 +27,9 @@ returns-in-Ok-clause-take g c =
 pub returns-in-Ok-clause-calls : goal.returns-in-Ok-clause-calls
 returns-in-Ok-clause-calls g c = c.note.ensures.calls
 
+pub returns-in-Ok-clause-opened : goal.returns-in-Ok-clause-opened
+returns-in-Ok-clause-opened g c = record { name = c.in-Ok.ensures.opened; kept = tt; still = λ m s. tt }
+
 pub returns-in-Ok-clause-desk : goal.returns-in-Ok-clause-desk
 returns-in-Ok-clause-desk g c = record {
   lends = c.in-Ok.ensures.lends;

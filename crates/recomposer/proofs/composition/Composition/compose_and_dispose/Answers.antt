@@ -68,7 +68,7 @@ returns-clause-log g c =
     (c.dispose-disposed.ensures.log c.args.begun.name opened)
     (λ m shows inner. c.dispose-disposed.ensures.disposed m c.args.begun.name
     (c.compose_owed-composed.ensures.same m shows) opened inner)
-    c.composed_frame.result c.composed_frame.ensures.good
+    c.composed_frame.result c.composed_frame.ensures.good c.composed_frame.ensures.no_fault
 
 pub returns-clause-desk : goal.returns-clause-desk
 returns-clause-desk g c =

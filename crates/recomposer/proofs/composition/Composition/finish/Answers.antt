@@ -59,7 +59,8 @@ returns-in-Err-clause-applier g c =
 pub returns-in-Err-clause-reads : goal.returns-in-Err-clause-reads
 returns-in-Err-clause-reads g c =
     asks_refused c.args.self.now (g.D.View.shows c.args.desk.now) (g.D.View.asked c.args.desk.now)
-    (g.D.View.asked c.compose_and_dispose.new.desk) Report c.in-Err.stop c.in-Err.stop c.in-Err.ensures.reads
+    (g.D.View.asked c.compose_and_dispose.new.desk) Report c.in-Err.stop c.in-Err.stop
+    (λ stop. c.in-Err.ensures.stops.no_fault (ap Err stop)) c.in-Err.ensures.reads
 
 pub returns-in-Err-clause-idle : goal.returns-in-Err-clause-idle
 returns-in-Err-clause-idle g c h =

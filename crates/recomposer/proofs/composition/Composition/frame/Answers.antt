@@ -1,4 +1,4 @@
-use Rattle.std.proofs.Common.{◌≡◌, ◌++◌, ◌∙◌, refl, ap, sym, subst, inl, inr, Some, Err}
+use Rattle.std.proofs.Common.{◌≡◌, ◌++◌, ◌∙◌, refl, ap, sym, subst, Some, Err}
 use Rattle.rt_groups.specs.Frames.{LastFrame}
 use Rattle.recomposer.specs.declared.composition.Composition.{Composition}
 use Rattle.recomposer.specs.declared.composition.FrameStop.TheVariants.{ApplierFault}
@@ -8,14 +8,17 @@ use Rattle.recomposer.proofs.QuietFrames.{quiet_at}
 use Rattle.recomposer.proofs.ShownFrames.{applier_left, applier_since, same_desk, same_settings}
 use Rattle.recomposer.proofs.Stops.{may_be_called, stopped_at, stopped_detached, stopped_before}
 use Rattle.recomposer.proofs.Draws.{grows_on}
-use Rattle.recomposer.proofs.Logs.{whole_frame, part_of_frame, makes_reads, frame_world}
+use Rattle.recomposer.proofs.Logs.{whole_frame, part_of_frame, log_begun, log_not_begun, makes_reads, frame_world}
 use Rattle.recomposer.proofs.composition.Composition.frame.Goals as goal
 
 pub finish-requires-clause-tree : goal.finish-requires-clause-tree
 finish-requires-clause-tree g c =
     may_be_called _ _ _ c.requires.tree (λ k at.
-    let began = c.in-Ok.ensures.frame.good k at.0 at.1 at.2 at.3 (at.4 c.begin.new.desk) in
+    let began = c.in-Ok.ensures.frame.good k at.0 at.1 at.2 at.3 (at.4 c.begin.new.desk c.in-Ok.ensures.desk.lends) in
     (began.map, began.at_now, began.shown))
+
+pub finish-requires-clause-opened : goal.finish-requires-clause-opened
+finish-requires-clause-opened g c = c.in-Ok.ensures.opened.name
 
 pub returns-in-Ok-finish-clause-desk : goal.returns-in-Ok-finish-clause-desk
 returns-in-Ok-finish-clause-desk g c = same_desk g.D.Desk.lends g.D.Desk.alone g.D.Desk.caller c.args.desk.now
@@ -98,7 +101,10 @@ returns-in-Err-clause-err g c k types l h last alone =
           (sym (stopped_before c.args.self.now.program.now k l c.in-Err.stop no_fault))
           (subst (λ (s : Composition). IsAt s k l) (sym c.in-Err.ensures.stops.err) h);
       is_last = c.in-Err.ensures.frame.stays types l last alone;
-      log_is = inl (c.in-Err.ensures.take.refused (types, l, last, alone)).1;
+      log_is = log_not_begun c.args.self.now.program.now k (g.D.Desk.log c.args.desk.now)
+          (g.D.Desk.log c.begin.new.desk) (g.D.Desk.caller c.args.desk.now) c.args.self.now.watcher c.in-Err.stop l
+          (λ e. c.begin.ensures.stops.few (c.in-Err.is ∙ ap Err e)) no_fault
+          (c.in-Err.ensures.take.refused (types, l, last, alone)).1;
       many = λ e. absurd (c.begin.ensures.stops.few (c.in-Err.is ∙ ap Err e));
       fault = λ e. absurd (no_fault e);
       detached = λ e. absurd (no_fault e);
@@ -109,7 +115,7 @@ returns-in-Err-finish-clause-err g c k types l h last alone =
     let watcher = c.args.self.now.watcher in
     let began = c.in-Ok.ensures.frame.good k types l h last (c.in-Err-finish.ensures.desk.same.alone watcher alone) in
     let p = c.begin.new.self.program.now in
-    made_no_frame c.args.self.now.program.now p k (IsAt c.finish.new.self) _ (g.D.Desk.log c.args.desk.now)
+    made_no_frame c.args.self.now.program.now p k (IsAt c.finish.new.self) _ _ (g.D.Desk.log c.args.desk.now)
     (g.D.Desk.log c.finish.new.desk) (g.D.Desk.caller c.args.desk.now) watcher c.in-Err-finish.stop
     (ap (λ q. q.now) c.in-Ok.ensures.calls.settings.program) (record {
       map = Some began.map;
@@ -117,21 +123,39 @@ returns-in-Err-finish-clause-err g c k types l h last alone =
           c.in-Err-finish.is c.finish.ensures.frame.err (c.finish.ensures.frame.fault k began.map began.at_now began.shown)
           began.at_now;
       is_last = c.in-Err-finish.ensures.desk.last watcher types (Some began.map) began.is_last alone;
-      log_is = inr (
-        began.map,
-        refl,
-        part_of_frame (g.D.Desk.log c.args.desk.now) (g.D.Desk.log c.begin.new.desk) (g.D.Desk.log c.finish.new.desk)
-            (g.D.Desk.caller c.args.desk.now) (g.D.Desk.caller c.begin.new.desk) watcher c.in-Ok.begun.name
-            c.in-Ok.begun.changed _
-            c.in-Ok.ensures.take.taken.1 c.in-Ok.ensures.desk.caller
-            (c.in-Err-finish.ensures.log.refused k began.map began.at_now began.shown began.inner),
-      );
+      log_is = log_begun p k (g.D.Desk.log c.args.desk.now) (g.D.Desk.log c.finish.new.desk)
+          (g.D.Desk.caller c.args.desk.now) watcher c.in-Err-finish.stop (Some began.map)
+          (λ e. c.finish.ensures.frame.not_spent (c.in-Err-finish.is ∙ ap Err e)) (
+            began.map,
+            refl,
+            part_of_frame (g.D.Desk.log c.args.desk.now) (g.D.Desk.log c.begin.new.desk) (g.D.Desk.log c.finish.new.desk)
+                (g.D.Desk.caller c.args.desk.now) (g.D.Desk.caller c.begin.new.desk) watcher c.in-Ok.begun.name
+                c.in-Ok.begun.changed _
+                c.in-Ok.ensures.take.taken.1 c.in-Ok.ensures.desk.caller
+                (c.in-Err-finish.ensures.log.refused k began.map began.at_now began.shown began.inner),
+          );
       many = λ e. (
         began.map,
         refl,
         c.finish.ensures.frame.many k began.map began.at_now began.shown (c.in-Err-finish.is ∙ ap Err e),
       );
-      fault = λ e. (began.map, refl);
+      fault = λ e.
+          let stop = c.in-Err-finish.is ∙ ap Err e in
+          let reads = frame_reads p k began.map in
+          record {
+            map = began.map;
+            is = refl;
+            made = c.finish.ensures.frame.made k began.map began.at_now began.shown stop;
+            done = (
+              c.finish.ensures.reads.fault k began.map began.at_now began.shown stop
+                  ∙ ap (λ l. l ++ reads) c.in-Ok.ensures.asks,
+              whole_frame (g.D.Desk.log c.args.desk.now) (g.D.Desk.log c.begin.new.desk)
+                  (g.D.Desk.log c.finish.new.desk) (g.D.Desk.caller c.args.desk.now)
+                  (g.D.Desk.caller c.begin.new.desk) watcher c.in-Ok.begun.name c.in-Ok.begun.changed reads
+                  c.in-Ok.ensures.take.taken.1 c.in-Ok.ensures.desk.caller
+                  (c.finish.ensures.log.fault k began.map began.at_now began.shown stop),
+            );
+          };
       detached = λ e. stopped_detached p k began.map c.in-Err-finish.stop e
           (c.finish.ensures.frame.detached k began.map began.at_now began.shown (c.in-Err-finish.is ∙ ap Err e));
     })

@@ -23,4 +23,5 @@ returns-in-Err-clause-frame g c =
 pub returns-in-Err-clause-reads : goal.returns-in-Err-clause-reads
 returns-in-Err-clause-reads g c =
     asks_refused c.args.self.now (g.V.View.shows c.args.view.now) (g.V.View.asked c.args.view.now)
-    (g.V.View.asked c.compose_owed.new.view) Report c.in-Err.stop c.frame_stop.result c.in-Err.ensures.reads
+    (g.V.View.asked c.compose_owed.new.view) Report c.in-Err.stop c.frame_stop.result
+    c.frame_stop.ensures.no_fault c.in-Err.ensures.reads
