@@ -13,7 +13,7 @@ use Rattle.recomposer.specs.declared.composition.FrameStop.{FrameStop}
 use Rattle.node_tree.specs.NodeTrees.{CursorTree}
 use Rattle.recomposer.specs.AppliedFrames.{MayCall}
 use Rattle.recomposer.specs.Compositions.{IsAt, BeginsFrame, MakesFrame, MakesNoFrame, LogsFrame, LogsNoFrame}
-use Rattle.recomposer.specs.FrameContracts.{RepliesToTake}
+use Rattle.recomposer.specs.FrameContracts.{KnowsLast, RepliesToTake}
 use Rattle.snap_policy.specs.Rules.{Rules}
 use Rattle.snap_api.specs.Calls.{Logs}
 use Rattle.snap_api.specs.World.{World}
@@ -200,18 +200,41 @@ module _ {W P : Type 0} (rules : Rules P) (stands : W → World P → Type 0) (s
   -- A frame that was not made.
   pub frame_err : (p : Program) (k : LastFrame) (at_frame : LastFrame → Option Map → Type 0)
       (r : Result Report FrameStop) →
-      IfErr r (MakesNoFrame p k at_frame (λ l. HasLast rules stands other after watcher types l)
+      IfErr r (MakesNoFrame p k at_frame (λ l. HasLast rules stands other after watcher types l) (Does after)
       (LogsNoFrame p k (Some (mine_of before)) (Some (mine_of after)) (seat_number before) watcher)) →
-      IfErr r (MakesNoFrame p k at_frame (λ l. HasLast rules stands shared back watcher types l)
+      IfErr r (MakesNoFrame p k at_frame (λ l. HasLast rules stands shared back watcher types l) (Does back)
       (LogsNoFrame p k (Some (mine_of before)) (Some (mine_of back)) (seat_number before) watcher))
   frame_err p k at_frame r f =
       subst (λ (s : Seat W). IfErr r
-      (MakesNoFrame p k at_frame (λ l. HasLast rules stands shared s watcher types l)
+      (MakesNoFrame p k at_frame (λ l. HasLast rules stands shared s watcher types l) (Does s)
       (LogsNoFrame p k (Some (mine_of before)) (Some (mine_of s)) (seat_number before) watcher))) (sym is_back)
       (subst (λ (v : Shared W P). IfErr r
-      (MakesNoFrame p k at_frame (λ l. HasLast rules stands v after watcher types l)
+      (MakesNoFrame p k at_frame (λ l. HasLast rules stands v after watcher types l) (Does after)
       (LogsNoFrame p k (Some (mine_of before)) (Some (mine_of after)) (seat_number before) watcher))) same_world
       f)
+
+-- The take of a frame in the caller's own calls.
+pub take_back : {W : Type 0} {calls : Reply → Type 0} (last : List Ty → Option Map → Type 0)
+    (before after back : Seat W) (watcher : ℕ) (r : Result Begun FrameStop) → back ≡ after →
+    RepliesToTake (λ y. calls y
+    × Logs (Some (mine_of before)) (Some (mine_of after)) (seat_number before) (request.TakeFor watcher) y)
+    (KnowsLast last (IsOnlyTaker (seat_number after) watcher (seen_by after))) r →
+    RepliesToTake (Logs (Some (mine_of before)) (Some (mine_of back)) (seat_number before) (request.TakeFor watcher))
+    (KnowsLast last (IsOnlyTaker (seat_number back) watcher (seen_by back))) r
+take_back {W} {calls} last before after back watcher r is_back h =
+    subst (λ (s : Seat W). RepliesToTake
+    (Logs (Some (mine_of before)) (Some (mine_of s)) (seat_number before) (request.TakeFor watcher))
+    (KnowsLast last (IsOnlyTaker (seat_number s) watcher (seen_by s))) r) (sym is_back) (logged r h)
+  where
+    logged : (q : Result Begun FrameStop) →
+        RepliesToTake (λ y. calls y
+        × Logs (Some (mine_of before)) (Some (mine_of after)) (seat_number before) (request.TakeFor watcher) y)
+        (KnowsLast last (IsOnlyTaker (seat_number after) watcher (seen_by after))) q →
+        RepliesToTake
+        (Logs (Some (mine_of before)) (Some (mine_of after)) (seat_number before) (request.TakeFor watcher))
+        (KnowsLast last (IsOnlyTaker (seat_number after) watcher (seen_by after))) q
+    logged (Ok b) h = record { taken = h.taken.1; refused = λ known. tt }
+    logged (Err e) h = record { taken = tt; refused = λ known. (h.refused known).1 }
 
 -- The seat of a desk returns. `shared` is the shared world of the desk before the calls, `other` the one after them.
 pub seat_returns : {W P : Type 0} (rules : Rules P) (stands : W → World P → Type 0) (shared other : Shared W P)

@@ -1,14 +1,17 @@
 -- Trusted: what a frame through a seat finds in the shared history.
-use Rattle.std.specs.Prelude.{◌≡◌, ℕ, List, ◌∷◌, ◌++◌, Option, Some, None}
+use Rattle.std.specs.Prelude.{◌≡◌, ℕ, List, ◌∷◌, ◌++◌, Option, Some, None, Result}
 use Rattle.rt_values.specs.Maps.{Map}
 use Rattle.rt_values.specs.declared.value.Ty.{Ty}
 use Rattle.rt_groups.specs.Frames.{LastFrame}
 use Rattle.rt_groups.specs.declared.report.Report.{Report}
 use Rattle.compose_model.specs.Frame.{FrameResult}
+use Rattle.recomposer.specs.declared.composition.Begun.{Begun}
 use Rattle.recomposer.specs.declared.composition.Composition.{Composition}
+use Rattle.recomposer.specs.declared.composition.FrameStop.{FrameStop}
 use Rattle.recomposer.specs.Compositions.{IsAt, BeginsFrame, MakesFrame}
-use Rattle.recomposer.specs.FrameContracts.{ReadsInFrame}
+use Rattle.recomposer.specs.FrameContracts.{KnowsLast, ReadsInFrame, RepliesToTake}
 use Rattle.snap_policy.specs.Rules.{Rules}
+use Rattle.snap_api.specs.Calls.{Logs}
 use Rattle.snap_api.specs.Desks.{Lasts}
 use Rattle.snap_api.specs.World.{World, snapshot_of}
 use Rattle.snap_api.specs.declared.data.Entry.{Entry}
@@ -68,6 +71,13 @@ module _ {W P : Type 0} (rules : Rules P) (stands : W → World P → Type 0) (s
   abbrev pub MayCompose : Composition → LastFrame → Seat W → Seat W → List Ty → Option Map → Type 0
   MayCompose c k before after types l =
       IsAt c k l × HasLast before c.watcher types l × IsOnlyTaker (seat_number after) c.watcher (seen_by after)
+
+  -- The caller's own calls grew by the take of a frame with the reply of this result, or stayed after out of memory.
+  -- After a refusal this is known only if the watcher's last map was.
+  abbrev pub TakesThrough : Seat W → Seat W → ℕ → Result Begun FrameStop → Type 0
+  TakesThrough before after watcher result =
+      RepliesToTake (Logs (Some (mine_of before)) (Some (mine_of after)) (seat_number before) (TakeFor watcher))
+      (KnowsLast (HasLast before watcher) (IsOnlyTaker (seat_number after) watcher (seen_by after))) result
 
   -- The composition has begun the frame of the map `m`, which the seat's snapshot `name` shows.
   abbrev pub HasBegun : Composition → LastFrame → Seat W → ℕ → Map → Type 0

@@ -4,11 +4,11 @@ ghost use Rattle.rt_values.specs.Maps.{Map};
 ghost use Rattle.rt_values.specs.declared.value.Ty.{Ty};
 ghost use Rattle.rt_groups.specs.Frames.{LastFrame};
 ghost use Rattle.recomposer.specs.AppliedFrames.{MayCall, Applies};
-ghost use Rattle.recomposer.specs.Compositions.{IsAt, StopsAtEnd, MakesNoFrame, LogsNoFrame};
-ghost use Rattle.recomposer.specs.FrameContracts.{KeepsSettings, KeepsCalls, ComposesShown, LeavesApplier, DrivesApplier, AsksOwed, LogsEnd, StopsBefore};
+ghost use Rattle.recomposer.specs.Compositions.{IsAt, StopsAtEnd, GrowsFor, MakesNoFrame, LogsNoFrame};
+ghost use Rattle.recomposer.specs.FrameContracts.{KeepsSettings, KeepsCalls, ComposesShown, LeavesApplier, DrivesApplier, AsksOwed, LogsEnd, StopsBefore, ReadsInFrame};
 ghost use Rattle.snap_shared.specs.SeatDesk.{IsOnlyTaker, objects_read};
 ghost use Rattle.snap_shared.specs.Seats.{seat_number, seen_by, mine_of};
-ghost use Rattle.recompose_seats.specs.SeatFrames.{ReturnsSeat, HasLast, HasClock, HasBegun, ShowsIn, MayCompose, BeginsThrough, MakesThrough};
+ghost use Rattle.recompose_seats.specs.SeatFrames.{ReturnsSeat, HasLast, HasClock, HasBegun, ShowsIn, MayCompose, BeginsThrough, TakesThrough, MakesThrough};
 
 use node_tree::Applier;
 use recomposer::{Begun, Composition, FrameStop};
@@ -41,6 +41,9 @@ pub fn begin_among<W: Versions + Drop, R: Wait, G: Gate>(
         StopsAtEnd (HasClock W.P.rules W.stands view.entry.shared.now result.0) n result.2 }
     ensures stops { StopsBefore composition.old composition.new result.2 }
     ensures calls { KeepsCalls composition.old composition.new }
+    ensures take { TakesThrough W.P.rules W.stands view.entry.shared.now view.entry.seat result.0
+        composition.old.watcher result.2 }
+    ensures draws { GrowsFor composition.old.watcher (Some (mine_of view.entry.seat)) (Some (mine_of result.0)) }
     ensures asks { objects_read (mine_of result.0) ≡ objects_read (mine_of view.entry.seat) }
 {
     let outcome = composition.begin(alloc, &mut view);
@@ -105,6 +108,9 @@ pub fn frame_among<W: Versions + Drop, R: Wait, G: Gate, A: Applier, L: Ledger>(
         MayCompose W.P.rules W.stands view.entry.shared.now composition.old k view.entry.seat result.0 types l →
         IfErr result.2 (MakesNoFrame composition.old.program.now k (IsAt composition.new)
         (HasLast W.P.rules W.stands view.entry.shared.now result.0 composition.old.watcher types)
+        (ReadsInFrame (objects_read (mine_of view.entry.seat)) (objects_read (mine_of result.0))
+        (Some (mine_of view.entry.seat)) (Some (mine_of result.0)) (seat_number view.entry.seat)
+        composition.old.watcher)
         (LogsNoFrame composition.old.program.now k (Some (mine_of view.entry.seat)) (Some (mine_of result.0))
         (seat_number view.entry.seat) composition.old.watcher)) }
     ensures applier { LeavesApplier A.tree A.faults applier.old applier.new composition.old composition.new result.2 }

@@ -10,8 +10,8 @@ use crate::fixture::{World, counter_world, history_of, two_seats, write};
 use lang_ast::{Expression, Function, Head, Ident, Program, Source, State, Statement, Version};
 use lang_checks::{Checked, check};
 use node_tree::UnitApplier;
-use recompose_seats::frame_among;
-use recomposer::{Composition, FrameStop};
+use recompose_seats::{begin_among, finish_among, frame_among};
+use recomposer::{Begun, Composition, FrameStop};
 use rt_groups::{GroupKind, Report};
 use rt_streams::OpenGate;
 use rt_values::{Steps, Ty, Value, Word};
@@ -309,5 +309,132 @@ fn each_frame_shows_the_value_at_its_take(rt: HostRuntime) -> Result<(), Fail> {
     assert!(rt; shown.len() == 200);
     shown.push(WRITES)?;
     assert!(rt; shown == numbers_at_takes(alloc, &history)?);
+    Ok(())
+}
+
+// Begins a frame through the seat. Returns the seat with the number of its next call at the gate, and the begun frame.
+fn begin_frame<R: Wait, W: Versions + Drop>(
+    rt: &R,
+    alloc: Global,
+    shared: &Shared<W>,
+    seat: Seat<W>,
+    composition: &mut Composition,
+) -> (Seat<W>, u64, Result<Begun, FrameStop>)
+    requires { IsSeat shared.now seat }
+    ensures { IsSeat shared.now result.0 }
+{
+    let view = SeatView::new(rt, shared, seat, &OpenGate, 0, None);
+    begin_among(view, alloc, composition)
+}
+
+// Ends a frame through the seat. `blank` is the ledger of the steps, which no test reads.
+fn finish_counting<R: Wait, W: Versions + Drop, L: Ledger>(
+    rt: &R,
+    alloc: Global,
+    shared: &Shared<W>,
+    seat: Seat<W>,
+    begun: Begun,
+    composition: &mut Composition,
+    blank: Blank,
+) -> (Seat<W>, u64, Result<Report, FrameStop>)
+    requires seat { IsSeat shared.now seat }
+    requires name { blank.name ≡ L.name }
+    requires parts { blank.parts ≡ L.parts }
+    requires some { 0 < L.parts }
+    ensures { IsSeat shared.now result.0 }
+{
+    let (book, share) = blank.open();
+    let mut steps: Steps<L> = Steps::new(book, share);
+    let view = SeatView::new(rt, shared, seat, &OpenGate, 0, Some(begun.name));
+    finish_among(
+        view,
+        alloc,
+        composition,
+        begun,
+        &mut UnitApplier,
+        &mut steps,
+    )
+}
+
+// Ends a frame through the seat, unless it did not begin. Returns the seat with the number that the frame shows.
+fn finish_frame<R: Wait, W: Versions + Drop>(
+    rt: &R,
+    alloc: Global,
+    shared: &Shared<W>,
+    seat: Seat<W>,
+    begun: Result<Begun, FrameStop>,
+    composition: &mut Composition,
+) -> (Seat<W>, i64)
+    requires { IsSeat shared.now seat }
+    ensures { IsSeat shared.now result.0 }
+{
+    let Ok(begun) = begun else {
+        return (seat, -1);
+    };
+    let (seat, _, outcome) = finish_counting::<R, W, Brand>(
+        rt,
+        alloc,
+        shared,
+        seat,
+        begun,
+        composition,
+        Blank::new(1),
+    );
+    let number = if outcome.is_ok() {
+        shown_number(composition.table())
+    } else {
+        -1
+    };
+    (seat, number)
+}
+
+// Begins a frame of the composition, writes through the other seat, and ends the frame. Returns both seats with the
+// number that the frame shows.
+fn frame_around_writes<R: Wait, W: Versions + Drop>(
+    rt: &R,
+    alloc: Global,
+    shared: &Shared<W>,
+    writer: Seat<W>,
+    reader: Seat<W>,
+    composition: &mut Composition,
+) -> (Seat<W>, Seat<W>, i64)
+    requires writer { IsSeat shared.now writer }
+    requires reader { IsSeat shared.now reader }
+    ensures writer { IsSeat shared.now result.0 }
+    ensures reader { IsSeat shared.now result.1 }
+{
+    let (reader, _, begun) = begin_frame(rt, alloc, shared, reader, composition);
+    let writer = write_numbers(rt, alloc, shared, writer);
+    let (reader, number) = finish_frame(rt, alloc, shared, reader, begun, composition);
+    (writer, reader, number)
+}
+
+#[test]
+fn a_frame_in_two_parts_shows_the_value_at_its_take(rt: HostRuntime) -> Result<(), Fail> {
+    let alloc = rt.alloc();
+    let program = checked_program(alloc)?;
+    let mut composition = Composition::new(alloc, &program, 0)?;
+    let (shared, writer, reader) = two_seats(&rt, alloc, counter_world(alloc)?)?;
+    let (writer, reader, first) = frame_around_writes(
+        &rt,
+        alloc,
+        &shared,
+        writer,
+        reader,
+        &mut composition,
+    );
+    let (writer, reader, second) = frame_around_writes(
+        &rt,
+        alloc,
+        &shared,
+        writer,
+        reader,
+        &mut composition,
+    );
+    let history = history_of(alloc, shared, writer, reader)?;
+    drop(composition);
+    assert!(rt; first == 0);
+    assert!(rt; second == WRITES);
+    assert!(rt; history.len() == 4006);
     Ok(())
 }
