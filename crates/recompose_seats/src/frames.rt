@@ -53,7 +53,7 @@ pub fn begin_among<W: Versions + Drop, R: Wait, G: Gate>(
 
 /// Ends a frame that has begun, through a desk of its snapshot, and returns the seat and the number of its next call at
 /// the gate (`Composition::finish`). Calls that other callers made since the take do not change the frame's map. Waits
-/// while other seats have the turn. Fails like `finish`.
+/// while other seats have the turn. Fails like `finish`, and disposes the snapshot then too.
 pub fn finish_among<W: Versions + Drop, R: Wait, G: Gate, A: Applier, L: Ledger>(
     mut view: SeatView<'_, W, R, G>,
     alloc: Global,
@@ -89,7 +89,8 @@ pub fn finish_among<W: Versions + Drop, R: Wait, G: Gate, A: Applier, L: Ledger>
 
 /// Makes a frame through a seat's desk, and returns the seat and the number of its next call at the gate
 /// (`Composition::frame`). Waits while other seats have the turn. Fails like `frame`. The applier is one that knows no
-/// tree, since a caller cannot know before the frame that no one else takes for the watcher.
+/// tree, since a caller cannot know before the frame that no one else takes for the watcher. `finish_among` takes any
+/// applier.
 pub fn frame_among<W: Versions + Drop, R: Wait, G: Gate, A: Applier, L: Ledger>(
     mut view: SeatView<'_, W, R, G>,
     alloc: Global,
