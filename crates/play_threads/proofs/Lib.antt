@@ -5,3 +5,4 @@ pub mod PartsMade
 pub mod Sequences
 pub mod Openings
 pub mod ActorEnds
+pub mod Crossing
