@@ -56,25 +56,34 @@ fn frame_with(
     Ok(recompose_counting::<Brand>(alloc, composition, &mut view, applier, Blank::new(1)))
 }
 
+// Whether this call inserts the node with this number at this index.
+fn is_insert(op: Option<&Op>, at: usize, number: u64) -> bool {
+    matches!(op, Some(Op::InsertTopDown { index, node }) if *index == at && node.number == number)
+}
+
+// Whether this call reports that the node with this number, at this index, is complete.
+fn is_report(op: Option<&Op>, at: usize, number: u64) -> bool {
+    matches!(op, Some(Op::InsertBottomUp { index, node }) if *index == at && node.number == number)
+}
+
 // Whether the calls insert three rows with these numbers, and then report each.
 fn inserts_three(calls: &[Op], numbers: [u64; 3]) -> bool {
-    let [
-        Op::InsertTopDown { index: 0, node: a },
-        Op::InsertTopDown { index: 1, node: b },
-        Op::InsertTopDown { index: 2, node: c },
-        Op::InsertBottomUp { index: 0, node: d },
-        Op::InsertBottomUp { index: 1, node: e },
-        Op::InsertBottomUp { index: 2, node: f },
-    ] = calls
-    else {
-        return false;
-    };
-    [a.number, b.number, c.number] == numbers && [d.number, e.number, f.number] == numbers
+    let [a, b, c] = numbers;
+    calls.len() == 6
+        && is_insert(calls.get(0), 0, a)
+        && is_insert(calls.get(1), 1, b)
+        && is_insert(calls.get(2), 2, c)
+        && is_report(calls.get(3), 0, a)
+        && is_report(calls.get(4), 1, b)
+        && is_report(calls.get(5), 2, c)
 }
 
 // Whether the calls clear the tree and then insert three rows with these numbers.
 fn clears_and_inserts(ops: &Ops, numbers: [u64; 3]) -> bool {
-    matches!(ops.items().split_first(), Some((Op::Clear, calls)) if inserts_three(calls, numbers))
+    let Some((clear, calls)) = ops.items().split_first() else {
+        return false;
+    };
+    matches!(clear, Op::Clear) && inserts_three(calls, numbers)
 }
 
 // Makes a frame whose call fails. Returns whether nothing but the next number is kept, and the calls of the last good
@@ -93,7 +102,8 @@ fn fails_and_keeps_the_number(
     )
 }
 
-// Makes a good frame, one after it, in which call number `failing` fails, and a third one. Returns whether the last one begins anew.
+// Makes a good frame, one after it, in which call number `failing` fails, and a third one. Returns whether the last one
+// begins anew.
 fn fails_and_recovers(alloc: Global, program: &Checked, failing: u64) -> Result<bool, Fail> {
     let mut composition = Composition::new(alloc, program, 0)?;
     let mut applier = FailingApplier::new(UnitApplier, vec![in alloc; failing]?);
