@@ -1,0 +1,11 @@
+pub mod Matches
+pub mod Visits
+pub mod PathSums
+pub mod SiblingCounts
+pub mod FoundSites
+pub mod Bounds
+pub mod CostOrders
+pub mod SkippedWalks
+pub mod CheckedFrames
+pub mod OwedLists
+pub mod QuietBounds
