@@ -1,11 +1,11 @@
 -- The links of a map's entries after a change of one entry.
-use Rattle.std.proofs.Common.{◌≡◌, ◌≤◌, ◌<◌, ◌+◌, ℕ, zero, suc, nat_eq, Bool, true, false, List, [], ◌∷◌, ◌++◌, map, length, take, get_or, Some, None, cond, if◌then◌else◌, refl, ap, sym, ◌∙◌, arith}
+use Rattle.std.proofs.Common.{◌≡◌, ◌≤◌, ℕ, zero, suc, nat_eq, Bool, true, false, List, [], ◌∷◌, ◌++◌, map, length, Some, None, cond, if◌then◌else◌, refl, ap, sym, ◌∙◌, arith}
 use Rattle.std.proofs.lemmas.Option.{none-some, same_Some}
 use Rattle.std.specs.Prelude.{slice_get}
 use Rattle.std.specs.Option.{option_map_or}
 use Rattle.std.specs.Map.{lookup, set_value, values_of}
 use Rattle.indexmap.specs.IndexMap.{insert_entry, set_value_at}
-use Rattle.read_links.specs.LinkLists.{with_scope, links_with, links_with_all, scopes_in}
+use Rattle.read_links.specs.LinkLists.{with_scope, links_with, scopes_in}
 use Rattle.read_links.specs.Storage.{entry_links}
 
 pub set_links : {V : Type 0} (items : V → List ℕ) (s x : ℕ) (es : List (ℕ × V)) (v w : V)
@@ -51,19 +51,6 @@ insert_links items s x (e ∷ es) w absent is = by (nat_eq x e.0) absent (insert
         (entry_links items es))
     by true absent later = absurd (none-some e.1 (sym absent))
     by false absent later = ap (λ l. (e.0, items e.1) ∷ l) (later absent is)
-
--- A scope is put with the objects up to an index after it is put with those before the index.
-put_more : (s : ℕ) (xs : List ℕ) (k : ℕ) (ls : List (ℕ × List ℕ)) → k < length xs
-    → links_with_all s (take (suc k) xs) ls ≡ links_with s (get_or xs k 0) (links_with_all s (take k xs) ls)
-put_more s [] k ls inside = absurd (omega (arith, inside))
-put_more s (x ∷ xs) zero ls inside = refl
-put_more s (x ∷ xs) (suc k) ls inside = put_more s xs k (links_with s x ls) (omega (arith, inside))
-
-pub put_next : (s : ℕ) (xs : List ℕ) (k : ℕ) (ls : List (ℕ × List ℕ)) → k < length xs
-    → links_with_all s (take (k + 1) xs) ls ≡ links_with s (get_or xs k 0) (links_with_all s (take k xs) ls)
-put_next s xs k ls inside =
-    let next : k + 1 ≡ suc k = omega arith in
-    ap (λ n. links_with_all s (take n xs) ls) next ∙ put_more s xs k ls inside
 
 pub found_scopes : {V : Type 0} (items : V → List ℕ) (x : ℕ) (es : List (ℕ × V))
     → option_map_or items (lookup (nat_eq x) es) [] ≡ scopes_in x (entry_links items es)

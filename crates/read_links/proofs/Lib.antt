@@ -2,3 +2,4 @@ mod Laws
 mod Spares
 mod Entries
 mod Removals
+mod Rooms

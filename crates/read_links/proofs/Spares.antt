@@ -1,6 +1,6 @@
 -- The spare capacity of links.
 use Rattle.std.proofs.Common.{◌≡◌, ◌≤◌, ◌<◌, ℕ, zero, suc, ◌+◌, min, nat_eq, Bool, true, false, List, [], ◌∷◌, ◌++◌, length, Some, cond, if◌then◌else◌, ap, subst, arith}
-use Rattle.std.specs.Prelude.{Result, Ok, Err, OnOk}
+use Rattle.std.specs.Prelude.{Result, Ok, Err, OnOk, OnErr}
 use Rattle.std.proofs.Math.Nat.{min-le_left, min-le_right, le-min}
 use Rattle.std.proofs.lemmas.Option.{none-some, same_Some}
 use Rattle.std.specs.Prelude.{slice_get}
@@ -53,6 +53,12 @@ pub fewer : {X : Type 0} (room : X → ℕ) (n m : ℕ) (xs : List X) → n ≤ 
     → AllHaveSpare room n xs
 fewer room n m [] le all = tt
 fewer room n m (x ∷ xs) le all = (let first = all.0 in omega (arith, le, first), fewer room n m xs le all.1)
+
+-- Lists that have spare capacity for as many scopes as there are lists have some.
+pub any_has_spare : {X : Type 0} (room : X → ℕ) (n : ℕ) (xs : List X) → length xs ≤ n → AllHaveSpare room n xs
+    → AllHaveSpare room 1 xs
+any_has_spare room n [] le all = tt
+any_has_spare room n (x ∷ xs) le all = fewer room 1 n (x ∷ xs) (omega (arith, le)) all
 
 pub last_has_spare : {X : Type 0} (room : X → ℕ) (n : ℕ) (xs : List X) (y : X) → AllHaveSpare room n (xs ++ y ∷ [])
     → AllHaveSpare room n xs × (n ≤ room y)
@@ -163,3 +169,7 @@ insert_spare room s t k es pool rest v w less shorter le first later =
 pub on_ok : {X E P Q : Type 0} (r : Result X E) → OnOk r P → (P → Q) → OnOk r Q
 on_ok (Ok x) p f = f p
 on_ok (Err e) p f = tt
+
+pub on_err : {X E P : Type 0} (r : Result X E) → P → OnErr r P
+on_err (Ok x) p = tt
+on_err (Err e) p = p

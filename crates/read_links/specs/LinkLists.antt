@@ -1,5 +1,5 @@
 -- Trusted: the links from what is read to the scopes that read it.
-use Rattle.std.specs.Prelude.{ℕ, ◌-◌, ◌≡◌, ◌==◌, nat_eq, not, Bool, List, [], ◌∷◌, ◌++◌, length, take, slice_get, map, filter, Some, if◌then◌else◌}
+use Rattle.std.specs.Prelude.{ℕ, ◌-◌, ◌≡◌, ◌==◌, nat_eq, not, Bool, List, [], ◌∷◌, ◌++◌, length, slice_get, map, filter, Some, if◌then◌else◌}
 use Rattle.std.specs.Option.{option_eq}
 
 -- For each object the scopes that depend on it, and how many more pairs can be put without memory.
@@ -24,11 +24,6 @@ links_with s x (l ∷ ls) = if x == l.0 then (l.0, with_scope s l.1) ∷ ls else
 abbrev pub links_with_all : ℕ → List ℕ → List (ℕ × List ℕ) → List (ℕ × List ℕ)
 links_with_all s [] ls = ls
 links_with_all s (x ∷ xs) ls = links_with_all s xs (links_with s x ls)
-
--- The scope s is put with the objects before some index of the list, and with no other.
-pub record LinksFirst (s : ℕ) (xs : List ℕ) (before now : List (ℕ × List ℕ)) : Type 0 where
-  pub count : ℕ
-  pub links : now ≡ links_with_all s (take count xs) before
 
 abbrev pub scopes_without : ℕ → List ℕ → List ℕ
 scopes_without s ts = filter (λ t. not (t == s)) ts

@@ -4,7 +4,8 @@
 //! that read it, as the `observations` of `CompositionImpl` and the `scopeMap` of `SnapshotStateObserver` do.
 //! Contracts see a list of objects with their scopes (`specs/LinkLists.antt`).
 //! Promises: `scopes_of` lists exactly the scopes that were put with the object and not dropped. After `reserve(n)`,
-//! putting `n` pairs takes no memory. `scopes_of` and `drop_scope` never take memory.
+//! putting `n` pairs takes no memory. `put` takes all memory first: after `NoMemory` the links are as before.
+//! `scopes_of` and `drop_scope` never take memory.
 #![tactic(auto)]
 
 ghost use Rattle.read_links.specs.LinkLists.{PuttingLinksOneObject, DroppingUnlinksOneScope};

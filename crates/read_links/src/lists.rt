@@ -1,5 +1,5 @@
 // Lists of scopes.
-ghost use Rattle.std.specs.Prelude.{◌≡◌, ◌≤◌, ◌<◌, ◌+◌, ◌-◌, ℕ, [], length, vec_len, vec_capacity, IfOk, OnOk, OnErr};
+ghost use Rattle.std.specs.Prelude.{◌≡◌, ◌≤◌, ◌<◌, ◌+◌, ◌-◌, ℕ, [], true, length, vec_len, vec_capacity, IfOk, OnOk, OnErr};
 ghost use Rattle.read_links.specs.LinkLists.{ends_with, with_scope, scopes_without};
 ghost use Rattle.read_links.specs.Storage.{AllHaveSpare};
 
@@ -23,6 +23,7 @@ pub fn append_scope(scopes: &mut Vec<Scope>, scope: Scope) -> Result<(), NoMemor
     ensures items { OnOk result (scopes.new.items ≡ with_scope scope scopes.old.items) }
     ensures same { OnErr result (scopes.new.items ≡ scopes.old.items) }
     ensures free { vec_len scopes.old < vec_capacity scopes.old → OnErr result ⊥ }
+    ensures ended { ends_with scope scopes.old.items ≡ true → OnErr result ⊥ }
     ensures capacity { vec_capacity scopes.old ≤ vec_capacity scopes.new }
     ensures len { vec_len scopes.new ≤ vec_len scopes.old + 1 }
 {
@@ -78,4 +79,20 @@ pub fn new_pool(alloc: Global, n: usize) -> Result<Vec<Vec<Scope>>, NoMemory>
         at += 1;
     }
     Ok(pool)
+}
+
+// Makes the number of lists in `pool` at least `n`. Each new list is empty and has spare capacity for a scope.
+pub fn fill_pool(alloc: Global, pool: &mut Vec<Vec<Scope>>, n: usize) -> Result<(), NoMemory>
+    ensures count { OnOk result (n ≤ length pool.new.items) }
+    ensures room { AllHaveSpare (λ v. vec_capacity v - vec_len v) 1 pool.old.items →
+        AllHaveSpare (λ v. vec_capacity v - vec_len v) 1 pool.new.items }
+    ensures enough { n ≤ length pool.old.items → pool.new ≡ pool.old }
+    ensures free { n ≤ length pool.old.items → OnErr result ⊥ }
+{
+    while pool.len() < n {
+        let mut list = Vec::new(alloc);
+        list.reserve(1)?;
+        pool.push(list)?;
+    }
+    Ok(())
 }

@@ -52,7 +52,7 @@ impl RecomposeScopes {
     }
 
     /// Returns the scopes of the groups of `table` that have reads. Takes time linear in the groups and their reads,
-    /// each of which is hashed once.
+    /// each of which is hashed at most three times.
     pub fn of(alloc: Global, table: &Table) -> Result<Self, NoMemory>
         ensures { IfOk result (λ s. AreScopesOf (own_reads table.now.groups) s) }
     {
@@ -64,7 +64,8 @@ impl RecomposeScopes {
     }
 
     /// Returns the scopes of the groups of a new frame that have reads, where `reads` are the reads of all groups.
-    /// Takes time linear in the groups and their reads, each of which is hashed once. A rule of this project.
+    /// Takes time linear in the groups and their reads, each of which is hashed at most three times. A rule of this
+    /// project.
     pub fn of_reads(alloc: Global, reads: ShrunkReads<'_>) -> Result<Self, NoMemory>
         ensures { IfOk result (λ s. AreScopesOf reads.entry s) }
     {

@@ -1,6 +1,6 @@
 use Rattle.std.proofs.Common.{◌-◌, vec_len, vec_capacity, arith}
 use Rattle.indexmap.specs.IndexMap.{spare}
-use Rattle.read_links.proofs.Spares.{spare_is}
+use Rattle.read_links.proofs.Spares.{spare_is, any_has_spare}
 use Rattle.read_links.proofs.links.Links.reserve.Goals as goal
 
 pub returns-clause-room : goal.returns-clause-room
@@ -15,3 +15,9 @@ returns-clause-room c =
       ready = c.in_ok-pool.ensures.room;
       lists = c.in_ok-reserve_lists.ensures.room;
     })
+
+pub invariant_of-self-2 : goal.invariant_of-self-2
+invariant_of-self-2 c =
+    let count = c.in_ok-pool.ensures.len in
+    any_has_spare (λ v. vec_capacity v - vec_len v) c.args.n c.in_ok-pool.pool.items (omega (arith, count))
+    c.in_ok-pool.ensures.room
