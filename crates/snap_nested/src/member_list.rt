@@ -102,9 +102,8 @@ impl MemberList {
         self.count
     }
 
-    /// Returns the member of an open name. Uses binary search.
-    #[inline]
-    pub fn get(&self, name: Name) -> Option<&Member>
+    // Returns the member of an open name. Uses binary search.
+    fn search(&self, name: Name) -> Option<&Member>
         ensures some { IfSome result (λ m. m.now ≡ member self.now name) }
         ensures none { IfNone result (member self.now name ≡ no_member) }
     {
@@ -114,7 +113,17 @@ impl MemberList {
         }
     }
 
+    /// Returns the member of an open name. Looks at index `name` first, where the members of low names are.
+    #[inline]
+    pub fn get(&self, name: Name) -> Option<&Member>
+        ensures some { IfSome result (λ m. m.now ≡ member self.now name) }
+        ensures none { IfNone result (member self.now name ≡ no_member) }
+    {
+        self.get_near(name as usize, name)
+    }
+
     /// Returns the member of an open name. Does not search if the name has this index among the open names.
+    #[inline]
     pub fn get_near(&self, index: usize, name: Name) -> Option<&Member>
         ensures some { IfSome result (λ m. m.now ≡ member self.now name) }
         ensures none { IfNone result (member self.now name ≡ no_member) }
@@ -123,7 +132,7 @@ impl MemberList {
         if index < names.len() && names[index] == name {
             return Some(&self.opened[index]);
         }
-        self.get(name)
+        self.search(name)
     }
 
     /// Appends a member, which gets the next name. After `NoMemory` the list is unchanged.

@@ -2,7 +2,7 @@ use Rattle.std.proofs.Common.{◌≡◌, sym, ◌∙◌, subst, List}
 use Rattle.snap_nested.specs.Members.{no_member, member}
 use Rattle.snap_nested.specs.declared.family.Member.{Member}
 use Rattle.snap_nested.proofs.ByName.{found, indexed, unfound}
-use Rattle.snap_nested.proofs.member_list.MemberList.get.Goals as goal
+use Rattle.snap_nested.proofs.member_list.MemberList.search.Goals as goal
 
 pub returns-in-Some-clause-some : goal.returns-in-Some-clause-some
 returns-in-Some-clause-some c = subst (λ (l : List Member). c.index.result.now ≡ member l c.args.name) c.self.view_is
