@@ -113,13 +113,25 @@ impl MemberList {
         }
     }
 
-    /// Returns the member of an open name. Looks at index `name` first, where the members of low names are.
+    /// Returns an index at which a name often is among the open names: `name` itself, if there is such an index, and
+    /// else the last one.
+    #[inline]
+    pub fn likely_index(&self, name: Name) -> usize {
+        let index = name as usize;
+        let len = self.opened.len();
+        if index < len {
+            return index;
+        }
+        len.saturating_sub(1)
+    }
+
+    /// Returns the member of an open name. Looks first where the name is likely to be.
     #[inline]
     pub fn get(&self, name: Name) -> Option<&Member>
         ensures some { IfSome result (λ m. m.now ≡ member self.now name) }
         ensures none { IfNone result (member self.now name ≡ no_member) }
     {
-        self.get_near(name as usize, name)
+        self.get_near(self.likely_index(name), name)
     }
 
     /// Returns the member of an open name. Does not search if the name has this index among the open names.
