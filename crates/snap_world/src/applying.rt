@@ -5,7 +5,7 @@ ghost use Rattle.snap_world.specs.Noting.{noted_of};
 
 use crate::RecordWorld;
 use crate::moving::{pad_all, raise_noted, stamp_settled};
-use crate::noting::{note_settled, noted, set_noted};
+use crate::noting::{add_list, note_settled, noted, set_noted};
 use crate::settling::{ReadRecords, Settled, lesser, settled_of};
 use rt_values::{Name, NoMemory, ObjectNo};
 use snap_api::{Choice, choose, is_conflict};
@@ -183,7 +183,7 @@ impl<P: Policy> RecordWorld<P> {
         let Ok(more) = note_settled(alloc, &self.wrote, into, settled) else {
             return Err(NoMemory);
         };
-        let Ok(()) = self.wrote.add(alloc, into) else {
+        let Ok(()) = add_list(alloc, &mut self.wrote, into) else {
             return Err(NoMemory);
         };
         let Ok(()) = pad_all(alloc, &mut self.chains, settled) else {

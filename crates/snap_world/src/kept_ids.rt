@@ -12,7 +12,7 @@ ghost use Rattle.snap_world.specs.Sorted.{AreRecordsOwned};
 
 use crate::searched_ids::find_searched_ids;
 use rt_values::{Name, NoMemory, ObjectNo};
-use snap_nested::Family;
+use snap_nested::{Family, Member};
 use snap_records::{Chains, KeptIds, RecordNo};
 use std::alloc::Global;
 
@@ -68,19 +68,21 @@ fn find_walked_ids(
     ensures names { OnOk result (AreLiveNames (ids_of family.now.members) family.now.held) }
 {
     ids.set_only(family.id(name))?;
-    for reader in family.open_names() {
-        add_read_ids(family, chains, x, name, *reader, ids)?;
+    let readers = family.open_names();
+    for index in 0..readers.len() {
+        add_read_ids(family, chains, x, name, index, readers[index], ids)?;
     }
     Ok(())
 }
 
 // Adds the ids of the records of object `x` that the snapshot `reader` reads, if it is live: for its view, unless it is
-// `name`, and for its base.
+// `name`, and for its base. The snapshot is looked for at `index` first.
 fn add_read_ids(
     family: &Family,
     chains: &Chains,
     x: ObjectNo,
     name: Name,
+    index: usize,
     reader: Name,
     ids: &mut KeptIds,
 ) -> Result<(), NoMemory>
@@ -95,24 +97,26 @@ fn add_read_ids(
     ensures few { OnOk result (length ids.new
         ≤ length ids.old + (if (ids_of family.now.members).live reader then 2 else 0)) }
 {
-    if !family.live(reader) {
+    let Some(opened) = family.find_live_near(index, reader) else {
         return Ok(());
-    }
+    };
     if reader == 0 || reader == name {
-        return add_one_id(family, chains, x, name, reader, ids);
+        return add_one_id(family, chains, x, name, reader, opened, ids);
     }
-    add_both_ids(family, chains, x, reader, ids)
+    add_both_ids(family, chains, x, reader, opened, ids)
 }
 
 // Adds the ids of the records of object `x` that a live snapshot reads for its view and for its base. The snapshot is
-// not global.
+// not global, and `opened` is its member.
 fn add_both_ids(
     family: &Family,
     chains: &Chains,
     x: ObjectNo,
     reader: Name,
+    opened: &Member,
     ids: &mut KeptIds,
 ) -> Result<(), NoMemory>
+    requires is { opened.now ≡ member family.now.members reader }
     requires live { (member family.now.members reader).is_live ≡ true }
     requires inner { 0 < reader }
     requires there { x < length chains.now.heads.items }
@@ -125,22 +129,23 @@ fn add_both_ids(
         → (contains i ids.old ≡ true) ⊎ IsNeeded (ids_of family.now.members) name (chain_of chains.now x) i) }
     ensures few { OnOk result (length ids.new ≤ length ids.old + 2) }
 {
-    let member = family.member(reader);
-    let read = chains.readable_both(x, member.id, &member.invalid, &member.ids);
+    let read = chains.readable_both(x, opened.id, &opened.invalid, &opened.ids);
     add_record_id(chains, read.0, ids)?;
     add_record_id(chains, read.1, ids)
 }
 
 // Adds the ids of the records of object `x` that a live snapshot reads: for its view, unless it is `name`, and for its
-// base, unless it is global.
+// base, unless it is global. `opened` is the member of the snapshot.
 fn add_one_id(
     family: &Family,
     chains: &Chains,
     x: ObjectNo,
     name: Name,
     reader: Name,
+    opened: &Member,
     ids: &mut KeptIds,
 ) -> Result<(), NoMemory>
+    requires is { opened.now ≡ member family.now.members reader }
     requires live { (member family.now.members reader).is_live ≡ true }
     requires there { x < length chains.now.heads.items }
     ensures more { (i : ℕ) → contains i ids.old ≡ true → contains i ids.new ≡ true }
@@ -152,20 +157,23 @@ fn add_one_id(
         ⊎ IsNeeded (ids_of family.now.members) name (chain_of chains.now x) i) }
     ensures few { OnOk result (length ids.new ≤ length ids.old + 2) }
 {
-    add_view_id(family, chains, x, name, reader, ids)?;
-    add_base_id(family, chains, x, reader, ids)?;
+    add_view_id(family, chains, x, name, reader, opened, ids)?;
+    add_base_id(family, chains, x, reader, opened, ids)?;
     Ok(())
 }
 
-// Adds the id of the record of object `x` that a live snapshot reads, unless the snapshot is `name`.
+// Adds the id of the record of object `x` that a live snapshot reads, unless the snapshot is `name`. `opened` is the
+// member of the snapshot.
 fn add_view_id(
     family: &Family,
     chains: &Chains,
     x: ObjectNo,
     name: Name,
     reader: Name,
+    opened: &Member,
     ids: &mut KeptIds,
 ) -> Result<(), NoMemory>
+    requires is { opened.now ≡ member family.now.members reader }
     requires live { (member family.now.members reader).is_live ≡ true }
     requires there { x < length chains.now.heads.items }
     ensures more { (i : ℕ) → contains i ids.old ≡ true → contains i ids.new ≡ true }
@@ -178,19 +186,21 @@ fn add_view_id(
     if reader == name {
         return Ok(());
     }
-    let member = family.member(reader);
-    let found = chains.readable(x, member.id, &member.invalid);
+    let found = chains.readable(x, opened.id, &opened.invalid);
     add_record_id(chains, found, ids)
 }
 
 // Adds the id of the record of object `x` that a live snapshot reads for its base, unless the snapshot is global.
+// `opened` is the member of the snapshot.
 fn add_base_id(
     family: &Family,
     chains: &Chains,
     x: ObjectNo,
     reader: Name,
+    opened: &Member,
     ids: &mut KeptIds,
 ) -> Result<(), NoMemory>
+    requires is { opened.now ≡ member family.now.members reader }
     requires live { (member family.now.members reader).is_live ≡ true }
     requires there { x < length chains.now.heads.items }
     ensures more { (i : ℕ) → contains i ids.old ≡ true → contains i ids.new ≡ true }
@@ -203,8 +213,7 @@ fn add_base_id(
     if reader == 0 {
         return Ok(());
     }
-    let member = family.member(reader);
-    let read = chains.readable_both(x, member.id, &member.invalid, &member.ids);
+    let read = chains.readable_both(x, opened.id, &opened.invalid, &opened.ids);
     add_record_id(chains, read.1, ids)
 }
 

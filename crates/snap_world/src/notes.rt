@@ -1,5 +1,5 @@
 // The list of the objects that snapshots wrote.
-ghost use Rattle.std.specs.Prelude.{◌≡◌, ◌≢◌, ◌++◌, ◌∷◌, ℕ, true, List, [], IfSome, IfNone, OnOk, OnErr};
+ghost use Rattle.std.specs.Prelude.{◌≡◌, ◌≢◌, ◌++◌, ◌∷◌, ℕ, true, false, List, [], IfSome, IfNone, OnOk, OnErr};
 ghost use Rattle.rt_values.specs.Maps.{contains};
 ghost use Rattle.snap_world.specs.Noting.{noted_of};
 
@@ -49,14 +49,23 @@ impl Notes {
         }
     }
 
-    /// Adds an empty list for a name that has none. After `NoMemory` the notes are unchanged.
+    /// Adds an empty list for a name, unless the name has a list. After `NoMemory` the notes are unchanged.
     pub fn add(&mut self, alloc: Global, name: Name) -> Result<(), NoMemory>
         ensures same { (n : ℕ) → noted_of self.new n ≡ noted_of self.old n }
         ensures there { OnOk result (contains name self.new.0 ≡ true) }
     {
-        if self.names.has(name) {
+        if self.names.find(name).is_some() {
             return Ok(());
         }
+        self.insert(alloc, name)
+    }
+
+    // Adds an empty list for a name that has none. After `NoMemory` the notes are unchanged.
+    fn insert(&mut self, alloc: Global, name: Name) -> Result<(), NoMemory>
+        requires { contains name self.old.0 ≡ false }
+        ensures same { (n : ℕ) → noted_of self.new n ≡ noted_of self.old n }
+        ensures there { OnOk result (contains name self.new.0 ≡ true) }
+    {
         let Ok(()) = self.lists.reserve(1) else {
             return Err(NoMemory);
         };

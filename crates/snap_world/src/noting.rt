@@ -1,5 +1,5 @@
 // The objects that each snapshot wrote, by name. Global's are not kept, since global is never applied.
-ghost use Rattle.std.specs.Prelude.{◌≡◌, ◌≢◌, ◌∷◌, ◌++◌, ℕ, ◌<◌, ◌&&◌, not, nat_lt, true, false, List, [], length, slice_index_or, IfOk, OnOk, OnErr, if◌then◌else◌};
+ghost use Rattle.std.specs.Prelude.{◌≡◌, ◌≢◌, ◌∷◌, ◌++◌, ℕ, ◌<◌, ◌&&◌, not, nat_lt, true, false, List, [], length, slice_index_or, IfOk, IfSome, OnOk, OnErr, if◌then◌else◌};
 ghost use Rattle.std.specs.Option.{unwrap_or};
 ghost use Rattle.rt_values.specs.Maps.{contains, with_member};
 ghost use Rattle.snap_world.specs.Choices.{with_taken};
@@ -59,11 +59,15 @@ pub fn note_settled(
     into: Name,
     settled: &[Settled],
 ) -> Result<Option<Objects>, NoMemory>
-    ensures { IfOk result (λ o. unwrap_or o (noted_of wrote.now into)
+    ensures is { IfOk result (λ o. unwrap_or o (noted_of wrote.now into)
         ≡ (if nat_lt 0 into then with_taken settled.now (noted_of wrote.now into) else noted_of wrote.now into)) }
+    ensures inner { IfOk result (λ o. IfSome o (λ all. 0 < into)) }
 {
+    if into == 0 {
+        return Ok(None);
+    }
     let before = noted(wrote, into);
-    if 0 < into && has_more(before, settled) {
+    if has_more(before, settled) {
         let Ok(all) = with_taken(alloc, before, settled) else {
             return Err(NoMemory);
         };
@@ -82,10 +86,22 @@ fn has_noted(wrote: &Notes, name: Name, object: ObjectNo) -> bool
     }
 }
 
+/// Adds an empty list for a snapshot, unless it has a list or is global. After `NoMemory` the notes are unchanged.
+pub fn add_list(alloc: Global, wrote: &mut Notes, name: Name) -> Result<(), NoMemory>
+    ensures same { (n : ℕ) → noted_of wrote.new n ≡ noted_of wrote.old n }
+    ensures there { OnOk result (0 < name → contains name wrote.new.0 ≡ true) }
+{
+    if name == 0 {
+        return Ok(());
+    }
+    wrote.add(alloc, name)
+}
+
 /// Notes that a snapshot wrote an object, unless the snapshot is global. Returns whether the object is new in its list.
 pub fn note_object(wrote: &mut Notes, name: Name, object: ObjectNo) -> Result<bool, NoMemory>
-    requires { contains name wrote.old.0 ≡ true }
+    requires { 0 < name → contains name wrote.old.0 ≡ true }
     ensures ok { IfOk result (IsNoted wrote.old wrote.new name object) }
+    ensures there { IfOk result (λ is_new. is_new ≡ true → contains name wrote.new.0 ≡ true) }
     ensures err { OnErr result ((n : ℕ) → noted_of wrote.new n ≡ noted_of wrote.old n) }
     ensures names { wrote.new.0 ≡ wrote.old.0 }
 {
@@ -100,7 +116,7 @@ pub fn note_object(wrote: &mut Notes, name: Name, object: ObjectNo) -> Result<bo
 
 /// Removes the last object of a snapshot's list, if the object was new in it.
 pub fn unnote_object(wrote: &mut Notes, name: Name, is_new: bool)
-    requires { contains name wrote.old.0 ≡ true }
+    requires { is_new ≡ true → contains name wrote.old.0 ≡ true }
     ensures last { is_new ≡ true → (xs : List ℕ) (x : ℕ) → noted_of wrote.old name ≡ xs ++ x ∷ []
         → noted_of wrote.new name ≡ xs }
     ensures kept { is_new ≡ false → noted_of wrote.new name ≡ noted_of wrote.old name }
@@ -111,9 +127,10 @@ pub fn unnote_object(wrote: &mut Notes, name: Name, is_new: bool)
     }
 }
 
-/// Replaces the objects that a snapshot wrote, if there are others.
+/// Replaces the objects that a snapshot wrote, if there are others. There are none for global.
 pub fn set_noted(wrote: &mut Notes, name: Name, more: Option<Objects>)
-    requires { contains name wrote.old.0 ≡ true }
+    requires inner { IfSome more (λ all. 0 < name) }
+    requires there { 0 < name → contains name wrote.old.0 ≡ true }
     ensures here { noted_of wrote.new name ≡ unwrap_or more (noted_of wrote.old name) }
     ensures others { (n : ℕ) → n ≢ name → noted_of wrote.new n ≡ noted_of wrote.old n }
     ensures names { wrote.new.0 ≡ wrote.old.0 }

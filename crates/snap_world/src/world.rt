@@ -7,13 +7,13 @@ ghost use Rattle.snap_world.specs.Noting.{noted_of};
 use crate::kept_ids::find_kept_ids;
 use crate::moving::{clear_noted, find_changed_objects, stamp_object};
 use crate::notes::Notes;
-use crate::noting::{note_object, unnote_object};
+use crate::noting::{add_list, note_object, unnote_object};
 use crate::stamp_list::{StampList, replace_last};
 use crate::used_ids::{add_record_ids, count_records};
 use rt_values::{Caller, Kind, Name, NoMemory, ObjectNo, Objects, Ty, Value, WatcherNo};
 use snap_api::{CLOCK_LIMIT, Object, Refusal, Versions};
 use snap_ids::IdSet;
-use snap_nested::Family;
+use snap_nested::{Family, Member};
 use snap_policy::Policy;
 use snap_records::{Chains, KeptIds, RecordNo};
 use snap_reuse::put;
@@ -43,6 +43,13 @@ pub struct RecordWorld<P> {
     ghost many: { length chains.heads.items ≡ length objects.items },
     ghost stamped: { length stamps.items ≡ length objects.items },
     ghost blank: { (n : ℕ) → length family.members ≤ n → noted_of wrote n ≡ [] },
+}
+
+// Returns whether the snapshot with this member belongs to another caller. Global belongs to every caller.
+fn is_foreign(member: &Member, caller: Caller, name: Name) -> bool
+    ensures { result ≡ (if name == 0 then false else not (member.now.owner == caller)) }
+{
+    name != 0 && member.owner != caller
 }
 
 impl<P: Policy> RecordWorld<P> {
@@ -111,10 +118,10 @@ impl<P: Policy> RecordWorld<P> {
         if self.clock == CLOCK_LIMIT {
             return Some(Refusal::Spent);
         }
-        if !self.family.live(parent) {
+        let Some(member) = self.family.find_live(parent) else {
             return Some(Refusal::Closed { name: parent });
-        }
-        if !matches!(self.family.kind(parent), Kind::Mutable) && matches!(kind, Kind::Mutable) {
+        };
+        if !matches!(member.kind, Kind::Mutable) && matches!(kind, Kind::Mutable) {
             return Some(Refusal::ReadOnly);
         }
         None
@@ -153,33 +160,33 @@ impl<P: Policy> RecordWorld<P> {
         if self.clock == CLOCK_LIMIT {
             return Some(Refusal::Spent);
         }
-        if !self.family.live(name) {
+        let Some(member) = self.family.find_live(name) else {
             return Some(Refusal::Closed { name });
-        }
-        if self.is_foreign(caller, name) {
+        };
+        if is_foreign(member, caller, name) {
             return Some(Refusal::NotYours {
-                owner: self.family.owner(name),
+                owner: member.owner,
             });
         }
-        self.object_refusal(name, object, value)
+        self.object_refusal(member.kind, name, object, value)
     }
 
-    // Returns whether the snapshot belongs to another caller. Global belongs to every caller.
-    fn is_foreign(&self, caller: Caller, name: Name) -> bool
-        ensures { result ≡ (if name == 0 then false else not ((world_parts self.now).owner name == caller)) }
-    {
-        name != 0 && self.family.owner(name) != caller
-    }
-
-    // Returns the refusal of a write that depends on the object, if there is one.
-    fn object_refusal(&self, name: Name, object: ObjectNo, value: &Value) -> Option<Refusal>
+    // Returns the refusal of a write that depends on the object, if there is one. The snapshot has the given kind.
+    fn object_refusal(
+        &self,
+        kind: Kind,
+        name: Name,
+        object: ObjectNo,
+        value: &Value,
+    ) -> Option<Refusal>
+        requires { kind ≡ (world_parts self.now).kind name }
         ensures { result ≡ object_refusal (world_parts self.now) name value.now (slice_get
             (world_parts self.now).objects object) }
     {
         let Some(kept) = self.objects.get(object as usize) else {
             return Some(Refusal::UnknownObject);
         };
-        if !matches!(self.family.kind(name), Kind::Mutable) {
+        if !matches!(kind, Kind::Mutable) {
             return Some(Refusal::ReadOnly);
         }
         if !value.ty().same(kept.ty) {
@@ -227,7 +234,7 @@ impl<P: Policy> RecordWorld<P> {
             → IsWithin kept.now ((world_parts self.new).chains object)) }
         ensures err { OnErr result (IsUnchanged (world_parts self.old) (world_parts self.new)) }
     {
-        let Ok(()) = self.wrote.add(alloc, name) else {
+        let Ok(()) = add_list(alloc, &mut self.wrote, name) else {
             return Err(NoMemory);
         };
         let Ok(is_new) = note_object(&mut self.wrote, name, object) else {
@@ -280,21 +287,21 @@ impl<P: Policy> RecordWorld<P> {
         if self.clock == CLOCK_LIMIT {
             return Some(Refusal::Spent);
         }
-        if !self.family.live(name) {
+        let Some(member) = self.family.find_live(name) else {
             return Some(Refusal::Closed { name });
-        }
+        };
         if name == 0 {
             return Some(Refusal::Global);
         }
-        if self.is_foreign(caller, name) {
+        if is_foreign(member, caller, name) {
             return Some(Refusal::NotYours {
-                owner: self.family.owner(name),
+                owner: member.owner,
             });
         }
-        if !matches!(self.family.kind(name), Kind::Mutable) {
+        if !matches!(member.kind, Kind::Mutable) {
             return Some(Refusal::ReadOnly);
         }
-        if !self.family.live(self.family.parent(name)) {
+        if !self.family.live(member.parent) {
             return Some(Refusal::ParentClosed);
         }
         None
@@ -310,9 +317,12 @@ impl<P: Policy> RecordWorld<P> {
         if name == 0 {
             return Some(Refusal::Global);
         }
-        if self.family.live(name) && self.is_foreign(caller, name) {
+        let Some(member) = self.family.find_live(name) else {
+            return None;
+        };
+        if is_foreign(member, caller, name) {
             return Some(Refusal::NotYours {
-                owner: self.family.owner(name),
+                owner: member.owner,
             });
         }
         None
@@ -418,12 +428,12 @@ impl<P: Policy> RecordWorld<P> {
     fn read_refusal(&self, caller: Caller, name: Name, object: ObjectNo) -> Option<Refusal>
         ensures { result ≡ read_refusal (world_parts self.now) caller name object }
     {
-        if !self.family.live(name) {
+        let Some(member) = self.family.find_live(name) else {
             return Some(Refusal::Closed { name });
-        }
-        if self.is_foreign(caller, name) {
+        };
+        if is_foreign(member, caller, name) {
             return Some(Refusal::NotYours {
-                owner: self.family.owner(name),
+                owner: member.owner,
             });
         }
         if object as usize >= self.objects.len() {

@@ -1,4 +1,4 @@
-use Rattle.std.proofs.Common.{ℕ, List, sym, ap, ◌∙◌, inl, inr}
+use Rattle.std.proofs.Common.{sym, ap, ◌∙◌, inl, inr}
 use Rattle.snap_ids.specs.IdLists.{is_valid}
 use Rattle.snap_nested.specs.Members.{member}
 use Rattle.snap_nested.specs.declared.family.Member.{Member}
@@ -14,7 +14,7 @@ returns-clause-view c =
     let m : Member = member c.args.family.now.members c.args.reader in
     let chain = chain_of c.args.chains.now c.args.x in
     on_ok_more c.add_record_id.result (λ added other. λ i h. added i (ap (has_id i) (c.readable-found.ensures.is
-    ∙ ap (λ (o : Member). readable (is_valid o.id o.invalid) chain) c.member-member.ensures) ∙ h)) c.add_record_id.ensures.added
+    ∙ ap (λ (o : Member). readable (is_valid o.id o.invalid) chain) c.requires.is) ∙ h)) c.add_record_id.ensures.added
 
 pub returns-clause-needed : goal.returns-clause-needed
 returns-clause-needed c =
@@ -24,5 +24,5 @@ returns-clause-needed c =
       | inl t ↦ inl t
       | inr t ↦ inr (view c.args.reader c.requires.live c.if-reader-name.false
           (sym (ap (has_id i) (c.readable-found.ensures.is
-          ∙ ap (λ (o : Member). readable (is_valid o.id o.invalid) chain) c.member-member.ensures)) ∙ t))
+          ∙ ap (λ (o : Member). readable (is_valid o.id o.invalid) chain) c.requires.is)) ∙ t))
     ]) c.add_record_id.ensures.only

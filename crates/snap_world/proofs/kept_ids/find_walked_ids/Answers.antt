@@ -23,37 +23,37 @@ only_one i id ids is h =
       first true h = refl
       first false h = absurd cc
 
-pub loop-reader-init : goal.loop-reader-init
-loop-reader-init c =
+pub loop-index-init : goal.loop-index-init
+loop-index-init c =
     let s = c.args.family.now in
     let open_name = λ (n : ℕ) (live : (ids_of s.members).live n ≡ true). ap (λ (l : List ℕ). contains n l)
-    c.open_names-reader-items.ensures.names ∙ s.listed.live n live in
+    c.open_names-readers.ensures.names ∙ s.listed.live n live in
     record {
       own = one_listed _ _ c.set_only.new.self c.id.ensures.id c.in_ok-set_only.ensures.ok;
       needed = λ i h. own (only_one i c.id.result c.set_only.new.self c.in_ok-set_only.ensures.ok h ∙ c.id.ensures.id);
       few = omega (arith, ap (λ (l : List ℕ). length l) c.in_ok-set_only.ensures.ok);
-      views = λ n live other out. absurd (not_both (contains n c.open_names-reader-items.result.now) (open_name n live)
+      views = λ n live other out. absurd (not_both (contains n c.open_names-readers.result.now) (open_name n live)
           out);
-      bases = λ n live inner out. absurd (not_both (contains n c.open_names-reader-items.result.now) (open_name n live)
+      bases = λ n live inner out. absurd (not_both (contains n c.open_names-readers.result.now) (open_name n live)
           out);
     }
 
-pub loop-reader-preserved : goal.loop-reader-preserved
-loop-reader-preserved c =
-    let items = c.open_names-reader-items.result.now in
-    let at = c.loop-reader.reader-index in
+pub loop-index-preserved : goal.loop-index-preserved
+loop-index-preserved c =
+    let items = c.open_names-readers.result.now in
+    let at = c.loop-index.index in
     let reader = slice_index_or items at 0 in
     let f = ids_of c.args.family.now.members in
     let chain = chain_of c.args.chains.now c.args.x in
-    let inv = c.loop-reader.invariant in
+    let inv = c.loop-index.invariant in
     let still = λ (n : ℕ) (other : n ≡ reader
     → ⊥) (out : contains n (drop (at + 1) items) ≡ false). ap (λ (l : List ℕ). contains n l)
-    (drop_more items at 0 c.loop-reader-test.true) ∙ left_out reader n (drop (at + 1) items) other out in
+    (drop_more items at 0 c.loop-index-test.true) ∙ left_out reader n (drop (at + 1) items) other out in
     record {
       own = c.add_read_ids.ensures.more _ inv.own;
       needed = λ i h. elim (c.in_ok-add_read_ids.ensures.needed i h) [ inl t ↦ inv.needed i t | inr t ↦ t ];
       few = two_each (f.live reader) (live_count f.live (take at items)) (live_count f.live (take (at + 1) items))
-          (length c.loop-reader.ids) (length c.add_read_ids.new.ids) (live_more f.live items at c.loop-reader-test.true)
+          (length c.loop-index.ids) (length c.add_read_ids.new.ids) (live_more f.live items at c.loop-index-test.true)
           inv.few c.in_ok-add_read_ids.ensures.few;
       views = λ n live other out. elim (same_or_other n reader) [
         | inl e ↦ subst (λ (k : ℕ). IsReadWithin (f.sees k) chain c.add_read_ids.new.ids) (sym e)
@@ -69,26 +69,26 @@ loop-reader-preserved c =
 
 pub returns-clause-read : goal.returns-clause-read
 returns-clause-read c =
-    let items = c.open_names-reader-items.result.now in
-    let none : drop c.loop-reader.reader-index items ≡ [] =
-    drop_of_length-le items (omega (arith, c.loop-reader-test.false)) in
+    let items = c.open_names-readers.result.now in
+    let none : drop c.loop-index.index items ≡ [] =
+    drop_of_length-le items (omega (arith, c.loop-index-test.false)) in
     record {
-      views = λ n live other. c.loop-reader.invariant.views n live other (ap (λ (l : List ℕ). contains n l) none);
-      bases = λ n live inner. c.loop-reader.invariant.bases n live inner (ap (λ (l : List ℕ). contains n l) none);
+      views = λ n live other. c.loop-index.invariant.views n live other (ap (λ (l : List ℕ). contains n l) none);
+      bases = λ n live inner. c.loop-index.invariant.bases n live inner (ap (λ (l : List ℕ). contains n l) none);
     }
 
 pub returns-clause-few : goal.returns-clause-few
 returns-clause-few c =
-    let items = c.open_names-reader-items.result.now in
+    let items = c.open_names-readers.result.now in
     let f = ids_of c.args.family.now.members in
-    let end : length items ≤ c.loop-reader.reader-index = omega (arith, c.loop-reader-test.false) in
-    let whole : live_count f.live (take c.loop-reader.reader-index items) ≡ live_count f.live c.args.family.now.held =
+    let end : length items ≤ c.loop-index.index = omega (arith, c.loop-index-test.false) in
+    let whole : live_count f.live (take c.loop-index.index items) ≡ live_count f.live c.args.family.now.held =
     ap (λ (l : List ℕ). live_count f.live l)
-    (take_all c.loop-reader.reader-index items end ∙ c.open_names-reader-items.ensures.names) in
-    omega (arith, whole, c.loop-reader.invariant.few)
+    (take_all c.loop-index.index items end ∙ c.open_names-readers.ensures.names) in
+    omega (arith, whole, c.loop-index.invariant.few)
 
 pub returns-clause-names : goal.returns-clause-names
 returns-clause-names c = record {
-  rising = subst IsRising c.open_names-reader-items.ensures.names c.open_names-reader-items.ensures.rising;
+  rising = subst IsRising c.open_names-readers.ensures.names c.open_names-readers.ensures.rising;
   all = c.args.family.now.listed.live;
 }

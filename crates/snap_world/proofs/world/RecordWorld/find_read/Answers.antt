@@ -1,4 +1,4 @@
-use Rattle.std.proofs.Common.{ℕ, List, ap, sym, subst, option_map, IfSome, ◌∙◌}
+use Rattle.std.proofs.Common.{List, ap, sym, subst, option_map, IfSome, ◌∙◌}
 use Rattle.std.specs.Prelude.{IsSome}
 use Rattle.slab.specs.Slab.{get}
 use Rattle.snap_nested.specs.Members.{member}

@@ -20,7 +20,7 @@ invariant_of-self g c = let old = c.args.self.now in
       few = old.few;
       many = old.many;
       stamped = old.stamped;
-      blank = λ n past. c.add.ensures.same n ∙ old.blank n past;
+      blank = λ n past. c.add_list.ensures.same n ∙ old.blank n past;
     }
 
 pub returns-in_default-clause-err : goal.returns-in_default-clause-err
@@ -37,7 +37,7 @@ returns-in_default-clause-err g c = record {
   handed = refl;
   ids = refl;
   chains = λ x. refl;
-  noted = λ n x. ap (λ (l : List ℕ). contains x l) (c.add.ensures.same n);
+  noted = λ n x. ap (λ (l : List ℕ). contains x l) (c.add_list.ensures.same n);
 }
 
 pub invariant_of-self-in_default-note_object : goal.invariant_of-self-in_default-note_object
@@ -47,7 +47,7 @@ invariant_of-self-in_default-note_object g c = let old = c.args.self.now in
       few = old.few;
       many = old.many;
       stamped = old.stamped;
-      blank = λ n past. c.in_default-note_object.ensures.err n ∙ c.add.ensures.same n ∙ old.blank n past;
+      blank = λ n past. c.in_default-note_object.ensures.err n ∙ c.add_list.ensures.same n ∙ old.blank n past;
     }
 
 pub returns-in_default-note_object-clause-err : goal.returns-in_default-note_object-clause-err
@@ -64,27 +64,27 @@ returns-in_default-note_object-clause-err g c = record {
   handed = refl;
   ids = refl;
   chains = λ x. refl;
-  noted = λ n x. ap (λ (l : List ℕ). contains x l) (c.in_default-note_object.ensures.err n ∙ c.add.ensures.same n);
+  noted = λ n x. ap (λ (l : List ℕ). contains x l) (c.in_default-note_object.ensures.err n ∙ c.add_list.ensures.same n);
 }
 
 pub invariant_of-self-in_default-put : goal.invariant_of-self-in_default-put
 invariant_of-self-in_default-put g c =
     let old = c.args.self.now in
     let u = c.unnote_object.ensures in
-    let same = undone c.add.new.self c.note_object.new.wrote c.unnote_object.new.wrote c.args.name
+    let same = undone c.add_list.new.wrote c.note_object.new.wrote c.unnote_object.new.wrote c.args.name
     c.args.object c.in-Ok-note_object.is_new c.in-Ok-note_object.ensures.ok u.last u.kept u.others in
     record {
       in_time = old.in_time;
       few = old.few;
       many = c.put.ensures.many ∙ old.many;
       stamped = old.stamped;
-      blank = λ n past. same n ∙ c.add.ensures.same n ∙ old.blank n past;
+      blank = λ n past. same n ∙ c.add_list.ensures.same n ∙ old.blank n past;
     }
 
 pub returns-in_default-put-clause-err : goal.returns-in_default-put-clause-err
 returns-in_default-put-clause-err g c =
     let u = c.unnote_object.ensures in
-    let same = undone c.add.new.self c.note_object.new.wrote c.unnote_object.new.wrote c.args.name
+    let same = undone c.add_list.new.wrote c.note_object.new.wrote c.unnote_object.new.wrote c.args.name
     c.args.object c.in-Ok-note_object.is_new c.in-Ok-note_object.ensures.ok u.last u.kept u.others in
     record {
       same = record {
@@ -99,7 +99,7 @@ returns-in_default-put-clause-err g c =
       handed = refl;
       ids = refl;
       chains = λ x. c.in_default-put.ensures.err x;
-      noted = λ n x. ap (λ (l : List ℕ). contains x l) (same n ∙ c.add.ensures.same n);
+      noted = λ n x. ap (λ (l : List ℕ). contains x l) (same n ∙ c.add_list.ensures.same n);
     }
 
 pub invariant_of-self-2 : goal.invariant_of-self-2
@@ -114,7 +114,7 @@ invariant_of-self-2 g c =
       blank = λ n past.
           let other : n ≢ c.args.name =
           λ same. omega (arith, same, past, live_member old.family.members c.args.name c.requires.live) in
-          c.in-Ok-note_object.ensures.ok.others n other ∙ c.add.ensures.same n ∙ old.blank n past;
+          c.in-Ok-note_object.ensures.ok.others n other ∙ c.add_list.ensures.same n ∙ old.blank n past;
     } where
       set_count : (b : Bool) (xs : List ℕ) (i y : ℕ) → length (cond b (slice_set xs i y) xs) ≡ length xs
       set_count true xs i y = length-set xs i y
@@ -145,9 +145,9 @@ returns-clause-ok g c = λ w s.
       others = c.put.ensures.others;
       noted = λ y. ap (λ (l : List ℕ). contains y l)
           (noted.here ∙ ap (λ (l : List ℕ). cond (nat_lt 0 name) (with_member c.args.object l) l)
-          (c.add.ensures.same name)) ∙ listed (nat_lt 0 name) y c.args.object
+          (c.add_list.ensures.same name)) ∙ listed (nat_lt 0 name) y c.args.object
           (noted_of old.wrote name);
-      noted_others = λ n y other. ap (λ (l : List ℕ). contains y l) (noted.others n other ∙ c.add.ensures.same n);
+      noted_others = λ n y other. ap (λ (l : List ℕ). contains y l) (noted.others n other ∙ c.add_list.ensures.same n);
       stamps = c.stamp_object.ensures;
     } where
       none : (b : Bool) → b ≡ (b || false)

@@ -21,18 +21,18 @@ use Rattle.snap_world.specs.declared.settling.Settled.{Settled}
 use Rattle.snap_world.proofs.Settled.{entry_settled, changed_settled, find_settled, taken_is, contains-with_taken}
 use Rattle.snap_world.proofs.world.RecordWorld.put_settled.Goals as goal
 
-pub invariant_of-self-in_default-add : goal.invariant_of-self-in_default-add
-invariant_of-self-in_default-add g c = let old = c.args.self.now in
+pub invariant_of-self-in_default-add_list : goal.invariant_of-self-in_default-add_list
+invariant_of-self-in_default-add_list g c = let old = c.args.self.now in
     record {
       in_time = old.in_time;
       few = old.few;
       many = old.many;
       stamped = old.stamped;
-      blank = λ n past. c.add.ensures.same n ∙ old.blank n past;
+      blank = λ n past. c.add_list.ensures.same n ∙ old.blank n past;
     }
 
-pub returns-in_default-add-clause-err : goal.returns-in_default-add-clause-err
-returns-in_default-add-clause-err g c = record {
+pub returns-in_default-add_list-clause-err : goal.returns-in_default-add_list-clause-err
+returns-in_default-add_list-clause-err g c = record {
   same = record {
     clock = refl;
     objects = refl;
@@ -45,7 +45,7 @@ returns-in_default-add-clause-err g c = record {
   handed = refl;
   ids = refl;
   chains = λ x. padded_same (chain_of c.args.self.now.chains x);
-  noted = λ n x. ap (λ (l : List ℕ). contains x l) (c.add.ensures.same n);
+  noted = λ n x. ap (λ (l : List ℕ). contains x l) (c.add_list.ensures.same n);
 }
 
 pub invariant_of-self-in_default-pad_all : goal.invariant_of-self-in_default-pad_all
@@ -55,7 +55,7 @@ invariant_of-self-in_default-pad_all g c = let old = c.args.self.now in
       few = old.few;
       many = c.pad_all.ensures.many ∙ old.many;
       stamped = old.stamped;
-      blank = λ n past. c.add.ensures.same n ∙ old.blank n past;
+      blank = λ n past. c.add_list.ensures.same n ∙ old.blank n past;
     }
 
 pub returns-in_default-pad_all-clause-err : goal.returns-in_default-pad_all-clause-err
@@ -72,7 +72,7 @@ returns-in_default-pad_all-clause-err g c = record {
   handed = refl;
   ids = refl;
   chains = c.pad_all.ensures.padded;
-  noted = λ n x. ap (λ (l : List ℕ). contains x l) (c.add.ensures.same n);
+  noted = λ n x. ap (λ (l : List ℕ). contains x l) (c.add_list.ensures.same n);
 }
 
 pub invariant_of-self-in_default-close_applied : goal.invariant_of-self-in_default-close_applied
@@ -85,7 +85,7 @@ invariant_of-self-in_default-close_applied g c =
       few = omega (arith, c.in_default-close_applied.ensures.err_handed, old.few);
       many = c.pad_all.ensures.many ∙ old.many;
       stamped = old.stamped;
-      blank = λ n past. c.add.ensures.same n ∙ old.blank n (omega (arith, past, many));
+      blank = λ n past. c.add_list.ensures.same n ∙ old.blank n (omega (arith, past, many));
     }
 
 pub returns-in_default-close_applied-clause-err : goal.returns-in_default-close_applied-clause-err
@@ -105,7 +105,7 @@ returns-in_default-close_applied-clause-err g c =
       handed = c.in_default-close_applied.ensures.err_handed;
       ids = ap ids_of e;
       chains = c.pad_all.ensures.padded;
-      noted = λ n x. ap (λ (l : List ℕ). contains x l) (c.add.ensures.same n);
+      noted = λ n x. ap (λ (l : List ℕ). contains x l) (c.add_list.ensures.same n);
     }
 
 pub raise_noted-requires-clause-within : goal.raise_noted-requires-clause-within
@@ -120,7 +120,7 @@ raise_noted-requires-clause-some g c = λ x small noted.
     ∙ ap entry_of_choice (c.requires.each i s there).0 in
     let listed : contains x (objects_of c.args.settled.now) ≡ true =
     ap (λ (l : List ℕ). contains x l)
-    (c.requires.objects ∙ sym (c.add.ensures.same c.args.name)) ∙ noted in
+    (c.requires.objects ∙ sym (c.add_list.ensures.same c.args.name)) ∙ noted in
     let head = c.in-Ok-pad_all.ensures.head (λ y. entry_of_choice (choices y)) are x
     (omega (arith, small, c.len.ensures, old.objects.ok.0, old.many)) listed in
     omega (arith, slice_get_within (chain_of c.pad_all.new.chains x) 0 _ head)
@@ -143,7 +143,7 @@ invariant_of-self-2 g c =
           λ same. omega (arith, same, past, many, live_member ms c.args.into c.requires.above) in
           let outer : n ≢ c.args.name =
           λ same. omega (arith, same, past, many, live_member ms c.args.name c.requires.live) in
-          c.remove.ensures.others n outer ∙ c.set_noted.ensures.others n other ∙ c.add.ensures.same n
+          c.remove.ensures.others n outer ∙ c.set_noted.ensures.others n other ∙ c.add_list.ensures.same n
           ∙ old.blank n (omega (arith, past, many));
     }
 
@@ -171,11 +171,11 @@ returns-clause-ok g c =
     let within : (x : ℕ) → h.noted name x ≡ true → x < length old.objects.items =
     λ x noted. let f = find_settled x settled (listed x noted) in
     omega (arith, (r.each f.at f.one f.there).1, f.same) in
-    let wrote : noted_of c.add.new.self name ≡ noted_of old.wrote name = c.add.ensures.same name in
+    let wrote : noted_of c.add_list.new.wrote name ≡ noted_of old.wrote name = c.add_list.ensures.same name in
     let unlike : into ≢ name = λ same. a.sound.above name r.live r.inner (r.parent ∙ same) in
     let before : List ℕ = noted_of old.wrote into in
     let more : unwrap_or c.in-Ok.more before ≡ cond (nat_lt 0 into) (with_taken settled before) before =
-    c.in-Ok.ensures in
+    c.in-Ok.ensures.is in
     record {
       clock = refl;
       objects = refl;
@@ -201,13 +201,13 @@ returns-clause-ok g c =
       left = λ x none. c.raise_noted.ensures.left x (ap (λ (l : List ℕ). contains x l) wrote ∙ none);
       noted_into = λ x. ap (λ (l : List ℕ). contains x l)
           (c.remove.ensures.others into unlike ∙ c.set_noted.ensures.here
-          ∙ ap (λ (l : List ℕ). unwrap_or c.in-Ok.more l) (c.add.ensures.same into) ∙ more)
+          ∙ ap (λ (l : List ℕ). unwrap_or c.in-Ok.more l) (c.add_list.ensures.same into) ∙ more)
           ∙ merged (nat_lt 0 into) x settled before (h.noted name x) (is_changed (choices x))
           (taken_is (λ y. is_changed (choices y)) settled kinds x
           ∙ ap (λ (l : List ℕ). contains x l && is_changed (choices x)) r.objects);
       noted_name = λ x. ap (λ (l : List ℕ). contains x l) c.remove.ensures.here;
       noted_others = λ n x one two. ap (λ (l : List ℕ). contains x l)
-          (c.remove.ensures.others n one ∙ c.set_noted.ensures.others n two ∙ c.add.ensures.same n);
+          (c.remove.ensures.others n one ∙ c.set_noted.ensures.others n two ∙ c.add_list.ensures.same n);
       stamps_count = c.stamp_settled.ensures.many;
       stamps_put = λ x root noted. c.stamp_settled.ensures.put root (λ y. entry_of_choice (choices y)) are x
           (omega (arith, within x noted, old.stamped)) (listed x noted);

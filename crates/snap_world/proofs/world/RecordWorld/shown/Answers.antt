@@ -1,4 +1,4 @@
-use Rattle.std.proofs.Common.{ℕ, List, ap, ◌∙◌}
+use Rattle.std.proofs.Common.{List, ap, ◌∙◌}
 use Rattle.snap_records.specs.Records.{Rec}
 use Rattle.snap_records.specs.Edits.{readable}
 use Rattle.snap_nested.specs.Members.{member}

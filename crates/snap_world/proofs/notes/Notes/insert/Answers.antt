@@ -5,7 +5,7 @@ use Rattle.snap_ids.specs.IdLists.{with_id}
 use Rattle.snap_ids.proofs.Booleans.{not_both}
 use Rattle.snap_world.specs.Noting.{noted_by, noted_of, AreNotes}
 use Rattle.snap_world.proofs.Noted.{with_has, added_within, added_notes, added_same}
-use Rattle.snap_world.proofs.notes.Notes.add.Goals as goal
+use Rattle.snap_world.proofs.notes.Notes.insert.Goals as goal
 
 pub unreachable-requires : goal.unreachable-requires
 unreachable-requires c = not_both (contains c.args.name c.set.new.self)
@@ -14,7 +14,8 @@ unreachable-requires c = not_both (contains c.args.name c.set.new.self)
 
 pub insert-requires : goal.insert-requires
 insert-requires c =
-    let none : contains c.args.name c.self.inside.names ≡ false = sym c.has.ensures ∙ c.if-has.false in
+    let none : contains c.args.name c.self.inside.names ≡ false =
+    subst (λ (v : List ℕ × List (List ℕ)). contains c.args.name v.0 ≡ false) (sym c.self.view_is) c.requires in
     omega (
       arith,
       added_within c.self.invariant c.in-Some.at c.args.name none
@@ -27,7 +28,8 @@ insert-requires c =
 
 pub invariant_of-self-2 : goal.invariant_of-self-2
 invariant_of-self-2 c =
-    let none : contains c.args.name c.self.inside.names ≡ false = sym c.has.ensures ∙ c.if-has.false in
+    let none : contains c.args.name c.self.inside.names ≡ false =
+    subst (λ (v : List ℕ × List (List ℕ)). contains c.args.name v.0 ≡ false) (sym c.self.view_is) c.requires in
     let at = c.in-Some.at in
     let new = added_notes c.self.invariant at c.args.name none
     (subst (λ (l : List ℕ). at < length l) c.in-Ok-set.ensures.ok c.in-Some.ensures.within)
@@ -40,7 +42,8 @@ invariant_of-self-2 c =
 
 pub returns-clause-same : goal.returns-clause-same
 returns-clause-same c = λ n.
-    let none : contains c.args.name c.self.inside.names ≡ false = sym c.has.ensures ∙ c.if-has.false in
+    let none : contains c.args.name c.self.inside.names ≡ false =
+    subst (λ (v : List ℕ × List (List ℕ)). contains c.args.name v.0 ≡ false) (sym c.self.view_is) c.requires in
     let at = c.in-Some.at in
     let same = added_same c.self.invariant at c.args.name none
     (subst (λ (l : List ℕ). at < length l) c.in-Ok-set.ensures.ok c.in-Some.ensures.within)
