@@ -1,7 +1,7 @@
 -- Old groups that follow each other, in which no call is owed.
 use Rattle.std.proofs.Common.{◌≡◌, ◌≤◌, ◌<◌, ℕ, zero, suc, ◌+◌, ◌-◌, nat_le, Bool, true, false, ◌||◌, if◌then◌else◌, List, [], ◌∷◌, ◌++◌, length, length-append, length-drop, take, drop, drop-cons, get_or, refl, ap, sym, ◌∙◌, arith, append_assoc, append-nil}
-use Rattle.std.proofs.lemmas.Bool.{true≢false}
-use Rattle.std.proofs.lemmas.List.{drop-drop, get_or-drop}
+use Rattle.std.proofs.lemmas.Bool.{true≢false, leb-false}
+use Rattle.std.proofs.lemmas.List.{drop-drop, get_or-drop, drop_all}
 use Rattle.rt_values.specs.Maps.{Map, contains}
 use Rattle.rt_groups.specs.declared.groups.Group.{Group as TableGroup}
 use Rattle.rt_groups.specs.GroupForest.{GroupForest, End, Read, Group, GroupKind, Call, Node, Key, Cell}
@@ -259,3 +259,22 @@ level_end_is groups around first j depth low high inside depth_is after =
       inside = inside;
       after = sym here;
     }
+
+-- The groups of a whole frame end where the list of groups ends.
+
+all_deep : (gs : List TableGroup) → after_deep 0 gs ≡ []
+all_deep [] = refl
+all_deep (g ∷ gs) = by (nat_le 0 g.depth) refl (all_deep gs)
+  where
+    by : (b : Bool) → nat_le 0 g.depth ≡ b → after_deep 0 gs ≡ [] → (if b then after_deep 0 gs else g ∷ gs) ≡ []
+    by true f none = none
+    by false f none = absurd (let deep = leb-false 0 g.depth f in omega (arith, deep))
+
+pub top_end_is : (groups : List TableGroup) (first j depth : ℕ) → depth ≡ 0 → first ≤ length groups → j ≡ length groups
+    → IsLevelEnd depth groups first j
+top_end_is groups first j depth top low whole = record {
+  order = omega (arith, low, whole);
+  inside = omega (arith, whole);
+  after = ap (λ d. after_deep d (drop first groups)) top ∙ all_deep (drop first groups)
+      ∙ sym (drop_all j groups (omega (arith, whole)));
+}

@@ -5,7 +5,7 @@ use Rattle.rt_groups.specs.declared.groups.Group.{Group as Listed}
 use Rattle.rt_groups.specs.declared.groups.GroupKind.{GroupKind as ListedKind}
 use Rattle.rt_groups.specs.declared.groups.GroupKind.TheVariants as listed
 use Rattle.rt_values.specs.Maps.{Map}
-use Rattle.rt_groups.specs.GroupForest.{GroupForest, End, Group, GroupKind, Call, Node, Key, Cell, asks, own_part}
+use Rattle.rt_groups.specs.GroupForest.{GroupForest, End, Group, GroupKind, Call, Node, Key, Cell, is_call, asks, own_part}
 use Rattle.rt_groups.specs.Paths.{Found}
 use Rattle.rt_groups.specs.PreorderGroups.{flat_kind, flat_reads, flat_group, preorder}
 use Rattle.rt_groups.specs.Frames.{meets}
@@ -22,6 +22,7 @@ use Rattle.composer.specs.OldGroups.{Alike, Begins}
 use Rattle.composer.specs.ComposerState.{ComposerState, put_group, opened_group, closed_group, composed_beside, run_beside, skipped_inside, skipped_groups}
 use Rattle.composer.specs.BesideContracts.{IsPrefix, Reaches}
 use Rattle.composer.specs.WrittenGroups.{WrittenGroups, state_of, with_call, running_call, written_kept, number_kept}
+use Rattle.composer.specs.Recomposes.{is_call_kept}
 use Rattle.composer.proofs.Machine.{same_state, composed_is, part_of, longer, state_after_work, state_after_walk, skipped_is, skip_group}
 
 -- A call that has no work inside it.
@@ -203,6 +204,25 @@ kept_call m owed fs d site f g vs s mid what quiet e =
     ∙ ap (λ (b : Bool). skipped_inside m owed fs d site f.number (Call g vs) b f.inside (skipped_groups m owed f.inside)
     s) quiet)
 
+-- Another group that is kept.
+pub kept_other : (m : Map) (owed : List ℕ) (fs : List Func) (d site : ℕ) (f : Found) (s mid : ComposerState)
+    → is_call f.what ≡ false →
+    mid ≡ put_group (flat_group d site (number_kept (flat_kind f.what) f.number) (flat_kind f.what)
+    (flat_reads f.what f.inside)) s.next s
+    → skipped_groups m owed f.inside fs (d + 1) mid ≡ skips_one m owed fs d site f s
+kept_other m owed fs d site f s mid plain e =
+    ap (λ (q : ComposerState). skipped_groups m owed f.inside fs (d + 1) q) e ∙ by f.what plain
+  where
+    by : (w : GroupKind) → is_call w ≡ false
+        → skipped_groups m owed f.inside fs (d + 1)
+        (put_group (flat_group d site (number_kept (flat_kind w) f.number) (flat_kind w) (flat_reads w f.inside))
+        s.next s)
+        ≡ skipped_inside m owed fs d site f.number w (is_owed owed f.inside) f.inside (skipped_groups m owed f.inside) s
+    by (Call g vs) h = absurd cc
+    by (Node kind attributes) h = refl
+    by (Key v) h = refl
+    by (Cell ks v) h = refl
+
 -- The state after a group that is kept.
 pub kept_state : (d site : ℕ) (k : KeyInfo) (f : Found) (written written' : WrittenGroups) (asked mine : List ℕ)
     → Alike d (Some k) (Some f) →
@@ -225,6 +245,17 @@ pub owed_is : (d : ℕ) (k : KeyInfo) (f : Found) (h : ℕ) (vs : List Value) (o
     → f.what ≡ Call h vs → meets (old_group k).reads owed ≡ is_owed owed f.inside
 owed_is d k f h vs owed like what =
     ap (λ l. meets l owed) (like.reads ∙ ap (λ (w : GroupKind). flat_reads w f.inside) what)
+
+-- A group is no call in the forest if it is none in the table.
+pub no_call : (d : ℕ) (k : KeyInfo) (f : Found) → Alike d (Some k) (Some f) → is_call_kept (old_group k).what ≡ false
+    → is_call f.what ≡ false
+no_call d k f like plain = by f.what (sym (ap is_call_kept like.kind) ∙ plain)
+  where
+    by : (w : GroupKind) → is_call_kept (flat_kind w) ≡ false → is_call w ≡ false
+    by (Call g vs) h = absurd cc
+    by (Node kind attributes) h = refl
+    by (Key v) h = refl
+    by (Cell ks v) h = refl
 
 -- The reads of a body that was composed are those of its call.
 pub body_part : (owed : List ℕ) (was : GroupForest) (d site f : ℕ) (vs : List Value) (new : GroupForest)

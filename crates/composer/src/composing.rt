@@ -1,5 +1,5 @@
 // Composing again next to the groups of the last frame.
-ghost use Rattle.std.specs.Prelude.{◌≡◌, ◌<◌, ◌++◌, ◌∷◌, [], length, drop, take, IfOk, OnOk};
+ghost use Rattle.std.specs.Prelude.{◌≡◌, ◌<◌, ◌++◌, ◌∷◌, [], false, length, drop, take, IfOk, OnOk};
 ghost use Rattle.rt_values.specs.Maps.{Map};
 ghost use Rattle.rt_groups.specs.PreorderGroups.{preorder};
 ghost use Rattle.rt_groups.specs.Frames.{LastFrame};
@@ -11,8 +11,8 @@ ghost use Rattle.recompose_laws.specs.CalculatedCells.{StmtCalculates, StmtsCalc
 ghost use Rattle.composer.specs.WrittenGroups.{Drafts, arguments_of, AreArguments};
 ghost use Rattle.composer.specs.FrameDrafts.{Holds, IsOwing, ComposesFrame, root_of};
 ghost use Rattle.lang_ast.specs.Programs.{functions_of};
-ghost use Rattle.composer.specs.OldSiblings.{IsFoundIn};
-ghost use Rattle.composer.specs.Recomposes.{Recomposes, Continues, RanInside, StaysIn, Writes, HasRoom, HasRoomToWrite, FitsIn, statement_at, block_at, body_at, call_at, loop_at, BodyRan, GroupSkipped, GroupsSkipped, FrameWritten, any_calculation};
+ghost use Rattle.composer.specs.OldSiblings.{IsFoundIn, old_group};
+ghost use Rattle.composer.specs.Recomposes.{Recomposes, Continues, RanInside, StaysIn, Writes, HasRoom, HasRoomToWrite, FitsIn, is_call_kept, statement_at, block_at, body_at, call_at, loop_at, BodyRan, GroupSkipped, GroupsSkipped, FrameWritten, any_calculation};
 ghost use Rattle.composer.specs.EntersBlock.{HeadCalculates};
 
 use crate::blocks::{Entered, enter_block};
@@ -391,14 +391,14 @@ fn skip_call<'a, V: View, L: Ledger>(
         made.writer.keep_run(old.index(), after)?;
         return Ok(());
     }
-    skip_call_around(level, site, old, made, view, steps)
+    skip_group(level, site, old, made, view, steps)
 }
 
-// Skips an old call that is owed or contains owed calls. If it is owed itself it runs, else it is kept, and the groups
+// Skips an old group that is an owed call or contains one. If it is owed itself it runs, else it is kept, and the groups
 // inside are skipped.
 #[cycle(again)]
 #[inline(always)]
-fn skip_call_around<'a, V: View, L: Ledger>(
+fn skip_group<'a, V: View, L: Ledger>(
     level: &Level<'a>,
     site: u32,
     old: &OldGroup<'a>,
@@ -432,13 +432,42 @@ fn skip_call_around<'a, V: View, L: Ledger>(
             };
             skip_all(&inside, old.first_inside(), made, view, steps)
         }
-        _ => Err(ComposeStop::NoMemory), // Only a call is skipped by itself.
+        GroupKind::Node { .. } => skip_inside(level, site, old, made, view, steps),
+        GroupKind::Key(_) => skip_inside(level, site, old, made, view, steps),
+        GroupKind::Cell { .. } => skip_inside(level, site, old, made, view, steps),
     }
 }
 
+// Keeps an old group that is no call, and skips the groups inside it.
+#[cycle(again)]
+fn skip_inside<'a, V: View, L: Ledger>(
+    level: &Level<'a>,
+    site: u32,
+    old: &OldGroup<'a>,
+    made: &mut Progress<'a>,
+    view: &mut V,
+    steps: &mut Steps<L>,
+) -> Result<(), ComposeStop>
+    requires room { HasRoomToWrite level.now made.old.writer }
+    requires table { old.now.groups ≡ level.now.last.now.groups }
+    ensures { is_call_kept (old_group old.now).what ≡ false
+        → Writes V.shows V.asked V.keeps level.now.last.now.groups view.old view.new made.old made.new result
+        (λ m. GroupSkipped level.now m site old.now (V.asked view.old) (V.asked view.new) made.old.writer
+        made.new.writer result) }
+{
+    keep_group(level, site, old, &mut made.writer)?;
+    let inside = Level {
+        alloc: level.alloc,
+        functions: level.functions,
+        last: level.last,
+        depth: level.depth + 1,
+    };
+    skip_all(&inside, old.first_inside(), made, view, steps)
+}
+
 // Skips the old groups from index `first` on, up to the first that is less deep. Groups between owed calls are kept all
-// at once, at whatever depth they are. A call that contains an owed one is skipped for itself, since the calls inside
-// reach fewer functions.
+// at once. A call that contains an owed one is skipped by itself, since the calls inside reach fewer functions. So is a
+// group with several groups inside: the later ones are then passed over at once, if no call is owed there.
 #[cycle(again)]
 fn skip_all<'a, V: View, L: Ledger>(
     level: &Level<'a>,
@@ -471,7 +500,7 @@ fn skip_all<'a, V: View, L: Ledger>(
         if made.writer.len() < here.depth as usize {
             return Err(ComposeStop::NoMemory); // A group is after the groups that contain it.
         }
-        skip_call_around(&here, old.site(), &old, made, view, steps)?;
+        skip_group(&here, old.site(), &old, made, view, steps)?;
         at = last.index_after(stop);
     }
     Ok(())

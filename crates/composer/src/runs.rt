@@ -9,13 +9,19 @@ use crate::last_groups::LastGroups;
 use crate::old_groups::OldGroup;
 use rt_groups::GroupKind;
 
-// Returns the index after the groups inside the group at index `around`, if these are at `depth` and include the group
-// at index `first` or end there.
+// Returns the index after the groups at `depth` and inside them from index `first` on, if these are inside the group at
+// index `around` or are the groups of a whole frame.
 #[inline(always)]
 fn level_end(last: &LastGroups, depth: u32, around: usize, first: usize) -> Option<usize>
     ensures { IfSome result (λ end. IsLevelEnd depth last.now.groups first end) }
 {
-    if around >= first || first > last.len() || depth == 0 || last.depth(around) != depth - 1 {
+    if first > last.len() {
+        return None;
+    }
+    if depth == 0 {
+        return Some(last.len());
+    }
+    if around >= first || last.depth(around) != depth - 1 {
         return None;
     }
     let end = last.index_after(around);
@@ -25,10 +31,10 @@ fn level_end(last: &LastGroups, depth: u32, around: usize, first: usize) -> Opti
     Some(end)
 }
 
-/// Returns an index up to which no call is owed from index `first` on: that of the next call that is owed or contains
-/// an owed one, or of the next group that is less deep than `depth`, or the number of groups. The groups before the
-/// index are kept. Takes constant time if no call is owed in the groups inside the group at index `around` from `first`
-/// on, and else time linear in the number of siblings and of groups around the call that is found.
+/// Returns an index up to which no call is owed from index `first` on: that of the next group that is or contains an
+/// owed call and is skipped by itself, or of the next group that is less deep than `depth`, or the number of groups. The
+/// groups before the index are kept. Takes constant time if no call is owed from `first` on in the groups inside the
+/// group at index `around`, and else time linear in the number of siblings and of groups around the group that is found.
 #[inline(always)]
 pub fn next_call(last: &LastGroups, depth: u32, around: usize, first: usize) -> usize
     requires { first ≤ length last.now.groups }
@@ -46,8 +52,8 @@ pub fn next_call(last: &LastGroups, depth: u32, around: usize, first: usize) -> 
     next_call_around(last, depth, first, owed)
 }
 
-// Returns the index of the next call from index `first` on that ends after index `owed`, or that of the next group that
-// is less deep than `depth`, or the number of groups.
+// Returns the index of the next group from index `first` on that ends after index `owed` and is skipped by itself, or
+// that of the next group that is less deep than `depth`, or the number of groups.
 #[inline(always)]
 fn next_call_around(last: &LastGroups, depth: u32, first: usize, owed: usize) -> usize
     requires inside { first ≤ length last.now.groups }
@@ -65,7 +71,7 @@ fn next_call_around(last: &LastGroups, depth: u32, first: usize, owed: usize) ->
         let after = last.index_after(next);
         if after <= owed {
             next = after;
-        } else if is_call(last, next) {
+        } else if is_skipped_alone(last, next, after) {
             return next;
         } else {
             next += 1;
@@ -74,18 +80,29 @@ fn next_call_around(last: &LastGroups, depth: u32, first: usize, owed: usize) ->
     next
 }
 
-// Returns whether the group at index `at` is a call.
+// Returns whether the group at index `at`, which ends before index `after`, is skipped by itself: a call, whose groups
+// reach fewer functions, or a group with several groups directly inside, which are a level of their own.
 #[inline(always)]
-fn is_call(last: &LastGroups, at: usize) -> bool
+fn is_skipped_alone(last: &LastGroups, at: usize, after: usize) -> bool
     requires { at < length last.now.groups }
-    ensures { result ≡ is_call_kept (group_at last.now.groups at).what }
+    ensures { result ≡ false → is_call_kept (group_at last.now.groups at).what ≡ false }
 {
     match last.group(at).kind() {
         GroupKind::Call { .. } => true,
-        GroupKind::Node { .. } => false,
-        GroupKind::Key(_) => false,
-        GroupKind::Cell { .. } => false,
+        GroupKind::Node { .. } => !has_one_inside(last, at, after),
+        GroupKind::Key(_) => !has_one_inside(last, at, after),
+        GroupKind::Cell { .. } => !has_one_inside(last, at, after),
     }
+}
+
+// Returns whether exactly one group is directly inside the group at index `at`, which ends before index `after`.
+#[inline(always)]
+fn has_one_inside(last: &LastGroups, at: usize, after: usize) -> bool
+    requires { at < length last.now.groups }
+{
+    let len = last.len();
+    let inside = at + 1;
+    inside < len && last.index_after(inside) == after
 }
 
 /// Returns the index after an old call and the groups inside it if no call is owed there, and the call stays at this

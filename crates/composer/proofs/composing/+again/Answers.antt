@@ -28,7 +28,7 @@ use Rattle.composer.specs.ComposerState.{ComposerState, composed_beside, skipped
 use Rattle.composer.specs.QuietRuns.{group_run}
 use Rattle.composer.specs.BesideContracts.{Reaches, IsOldPart}
 use Rattle.composer.specs.WrittenGroups.{WrittenGroups, state_of, arguments_of, first_reads}
-use Rattle.composer.specs.Recomposes.{ComposesBeside}
+use Rattle.composer.specs.Recomposes.{ComposesBeside, is_call_kept}
 use Rattle.composer.proofs.BesideCases.{call_beside, choice_beside, block_beside, then_calculates, else_calculates, block_calculates}
 use Rattle.composer.proofs.EnteredBlocks.{remains_as, beside_failed, then_same, counted_then}
 use Rattle.composer.proofs.Machine.{same_state}
@@ -42,7 +42,7 @@ use Rattle.composer.proofs.SkippedCalls.{skips, skips_as}
 use Rattle.composer.proofs.RunBodies.{body_reached}
 use Rattle.composer.proofs.Tables.{fits_after, run_added, run_is}
 use Rattle.composer.proofs.InHand.{in_hand_on, scope_stays, stays_in_hand, counted_in_hand, beside_in_hand}
-use Rattle.composer.proofs.RunCalls.{call_alone, part_ran, longer_ran, body_done, body_stop, part_one, longer_than, call_what, owed_call, kept_call, kept_state, owed_is, body_part, begins_after}
+use Rattle.composer.proofs.RunCalls.{call_alone, part_ran, longer_ran, body_done, body_stop, part_one, longer_than, call_what, owed_call, kept_call, kept_other, no_call, kept_state, owed_is, body_part, begins_after}
 use Rattle.composer.proofs.SkipLoops.{layer_found, layer_same, layer_site, layer_part, moved_group, quiet_group, left_first, left_group, left_run, left_full, left_memory, left_more, left_stop, left_done, ends_past, index_grows}
 use Rattle.composer.proofs.ReadCounts.{counted_after, counted_kept, longer_on, stopped, failed}
 use Rattle.composer.proofs.composing.+again.Goals as goal
@@ -917,8 +917,8 @@ run_body-returns g t c = record {
 
 -- Old groups that are skipped.
 
-pub skip_call_around-returns-then-meet : goal.skip_call_around-returns-then-meet
-skip_call_around-returns-then-meet g t c = record {
+pub skip_group-returns-then-meet : goal.skip_group-returns-then-meet
+skip_group-returns-then-meet g t c = record {
   keeps = c.run_body.ensures.keeps;
   same = c.run_body.ensures.same;
   in_hand = c.run_body.ensures.in_hand;
@@ -939,19 +939,44 @@ skip_call_around-returns-then-meet g t c = record {
       (state_of c.args.made.now.writer (g.V.View.asked c.args.view.now) mine) what_is anew) r;
 }
 
-pub skip_call_around-returns-in_default : goal.skip_call_around-returns-in_default
-skip_call_around-returns-in_default g t c = record {
-  keeps = g.met.V.View.keeps_itself _;
-  same = λ m h. h;
-  in_hand = tt;
-  longer = tt;
-  fits = tt;
-  counted = λ m h. tt;
-  ran = λ m h l f mine since part like.
-      reached_stop _ refl (part_one m c.args.level.now.last.now.owed.objects
-      (functions_view c.args.level.now.functions.now) c.args.level.now.depth c.args.site f
-      (state_of c.args.made.now.writer (g.V.View.asked c.args.view.now) mine));
-}
+pub skip_group-returns-in-Node : goal.skip_group-returns-in-Node
+skip_group-returns-in-Node g t c =
+    let k = c.skip_inside.ensures (ap is_call_kept (sym c.kind.ensures ∙ c.in-Node.is)) in
+    record {
+      keeps = k.keeps;
+      same = k.same;
+      in_hand = k.in_hand;
+      longer = k.longer;
+      fits = k.fits;
+      counted = k.counted;
+      ran = k.ran;
+    }
+
+pub skip_group-returns-in-Key : goal.skip_group-returns-in-Key
+skip_group-returns-in-Key g t c =
+    let k = c.skip_inside-in-Key.ensures (ap is_call_kept (sym c.kind.ensures ∙ c.in-Key.is)) in
+    record {
+      keeps = k.keeps;
+      same = k.same;
+      in_hand = k.in_hand;
+      longer = k.longer;
+      fits = k.fits;
+      counted = k.counted;
+      ran = k.ran;
+    }
+
+pub skip_group-returns-in-Cell : goal.skip_group-returns-in-Cell
+skip_group-returns-in-Cell g t c =
+    let k = c.skip_inside-in-Cell.ensures (ap is_call_kept (sym c.kind.ensures ∙ c.in-Cell.is)) in
+    record {
+      keeps = k.keeps;
+      same = k.same;
+      in_hand = k.in_hand;
+      longer = k.longer;
+      fits = k.fits;
+      counted = k.counted;
+      ran = k.ran;
+    }
 
 pub skip_call-returns-in_err-keep_run : goal.skip_call-returns-in_err-keep_run
 skip_call-returns-in_err-keep_run g t c =
@@ -999,8 +1024,8 @@ skip_call-returns-in-Some g t c = record {
       };
 }
 
-pub skip_call_around-returns-in_err-keep_group-in-Call : goal.skip_call_around-returns-in_err-keep_group-in-Call
-skip_call_around-returns-in_err-keep_group-in-Call g t c =
+pub skip_group-returns-in_err-keep_group-in-Call : goal.skip_group-returns-in_err-keep_group-in-Call
+skip_group-returns-in_err-keep_group-in-Call g t c =
     let e : c.from_residual.result ≡ Err c.in_err-keep_group-in-Call.field-0.0 = search rules in
     record {
       keeps = g.met.V.View.keeps_itself _;
@@ -1018,8 +1043,8 @@ skip_call_around-returns-in_err-keep_group-in-Call g t c =
           c.args.level.now.depth c.args.site f (state_of c.args.made.now.writer (g.V.View.asked c.args.view.now) mine));
     }
 
-pub skip_call_around-returns-in_ok-keep_group-in-Call : goal.skip_call_around-returns-in_ok-keep_group-in-Call
-skip_call_around-returns-in_ok-keep_group-in-Call g t c = record {
+pub skip_group-returns-in_ok-keep_group-in-Call : goal.skip_group-returns-in_ok-keep_group-in-Call
+skip_group-returns-in_ok-keep_group-in-Call g t c = record {
   keeps = c.skip_all.ensures.keeps;
   same = c.skip_all.ensures.same;
   in_hand = in_hand_on _ _ _ _ (record { scope = refl; pending = refl; reads = refl }) c.skip_all.ensures.in_hand;
@@ -1048,6 +1073,45 @@ skip_call_around-returns-in_ok-keep_group-in-Call g t c = record {
       c.args.level.now.depth c.args.site f c.in-Call.function c.in-Call.arguments
       (state_of c.args.made.now.writer (g.V.View.asked c.args.view.now) mine)
       (state_of c.keep_group.new.writer (g.V.View.asked c.args.view.now) mine) what_is quiet state) r;
+}
+
+pub skip_inside-returns-in_err-keep_group : goal.skip_inside-returns-in_err-keep_group
+skip_inside-returns-in_err-keep_group g t c plain =
+    let e : c.from_residual.result ≡ Err c.in_err-keep_group.field-0.0 = search rules in
+    record {
+      keeps = g.met.V.View.keeps_itself _;
+      same = λ m h. h;
+      in_hand = stopped _ _ _ e;
+      longer = stopped _ _ _ e;
+      fits = stopped _ _ _ e;
+      counted = λ m h. stopped _ _ _ e;
+      ran = λ m h l f mine since part like.
+          let one = longer_than m c.args.level.now.last.now.owed.objects (functions_view c.args.level.now.functions.now)
+          c.args.level.now.depth c.args.site f (state_of c.args.made.now.writer (g.V.View.asked c.args.view.now) mine) in
+          reached_full _ (failed _ _ e)
+          (λ e. let full : length c.args.made.now.writer.groups ≡ most_groups = search rules in omega (arith, one, full))
+          (part_one m c.args.level.now.last.now.owed.objects (functions_view c.args.level.now.functions.now)
+          c.args.level.now.depth c.args.site f (state_of c.args.made.now.writer (g.V.View.asked c.args.view.now) mine));
+    }
+
+pub skip_inside-returns : goal.skip_inside-returns
+skip_inside-returns g t c plain = record {
+  keeps = c.skip_all.ensures.keeps;
+  same = c.skip_all.ensures.same;
+  in_hand = in_hand_on _ _ _ _ (record { scope = refl; pending = refl; reads = refl }) c.skip_all.ensures.in_hand;
+  longer = longer_on _ _ _ _ (kept_longer _ _ _ _ _ _ _ c.in_ok-keep_group.ensures.added) c.skip_all.ensures.longer;
+  fits = c.skip_all.ensures.fits;
+  counted = λ m h. counted_kept _ _ _ _ _ _ (ap (λ (q : WrittenGroups). q.reads) c.in_ok-keep_group.ensures.added)
+      (c.skip_all.ensures.counted m h);
+  ran = λ m h l f mine since part like.
+      let state = kept_state c.args.level.now.depth c.args.site c.args.old.now f c.args.made.now.writer
+      c.keep_group.new.writer (g.V.View.asked c.args.view.now) mine like c.in_ok-keep_group.ensures.added in
+      let r = c.skip_all.ensures.ran m h l f.inside mine since part
+      (begins_after _ c.args.old.now f _ _ (sym c.requires.table) c.first_inside.ensures like) in
+      reached_at (kept_other m c.args.level.now.last.now.owed.objects (functions_view c.args.level.now.functions.now)
+      c.args.level.now.depth c.args.site f (state_of c.args.made.now.writer (g.V.View.asked c.args.view.now) mine)
+      (state_of c.keep_group.new.writer (g.V.View.asked c.args.view.now) mine)
+      (no_call c.args.level.now.depth c.args.old.now f like plain) state) r;
 }
 
 pub skip_all-loop-at-init : goal.skip_all-loop-at-init
@@ -1124,12 +1188,12 @@ skip_all-returns g t c = record {
       (ends_past c.args.level.now.last.now.groups c.args.level.now.depth c.loop-at.at (search (rules, arith)));
 }
 
-pub skip_all-returns-in_err-skip_call_around : goal.skip_all-returns-in_err-skip_call_around
-skip_all-returns-in_err-skip_call_around g t c =
-    let e : c.from_residual-in_err-skip_call_around.result ≡ Err c.in_err-skip_call_around.field-0.0 = search rules in
+pub skip_all-returns-in_err-skip_group : goal.skip_all-returns-in_err-skip_group
+skip_all-returns-in_err-skip_group g t c =
+    let e : c.from_residual-in_err-skip_group.result ≡ Err c.in_err-skip_group.field-0.0 = search rules in
     record {
-      keeps = g.met.V.View.keeps_on _ _ _ c.loop-at.invariant.keeps c.in_err-skip_call_around.ensures.keeps;
-      same = λ m h. c.in_err-skip_call_around.ensures.same m (c.loop-at.invariant.same m h);
+      keeps = g.met.V.View.keeps_on _ _ _ c.loop-at.invariant.keeps c.in_err-skip_group.ensures.keeps;
+      same = λ m h. c.in_err-skip_group.ensures.same m (c.loop-at.invariant.same m h);
       in_hand = stopped _ _ _ e;
       longer = stopped _ _ _ e;
       fits = stopped _ _ _ e;
@@ -1153,26 +1217,26 @@ skip_all-returns-in_err-skip_call_around g t c =
           let site = c.site.ensures ∙ ap (λ (q : KeyInfo). (old_group q).site) c.group-old.ensures ∙ layer_site groups i f in
           let s = state_of c.keep_run.new.self (g.V.View.asked c.loop-at.view) mine in
           left_stop _ k f (reached_at (moved_group m owed fs found s at site)
-          (c.in_err-skip_call_around.ensures.ran m (c.loop-at.invariant.same m h) l found mine since
+          (c.in_err-skip_group.ensures.ran m (c.loop-at.invariant.same m h) l found mine since
           (layer_part f k.parts) like)) e;
     }
 
 pub skip_all-loop-at-preserved : goal.skip_all-loop-at-preserved
 skip_all-loop-at-preserved g t c = record {
-  keeps = g.met.V.View.keeps_on _ _ _ c.loop-at.invariant.keeps c.in_ok-skip_call_around.ensures.keeps;
-  same = λ m h. c.in_ok-skip_call_around.ensures.same m (c.loop-at.invariant.same m h);
+  keeps = g.met.V.View.keeps_on _ _ _ c.loop-at.invariant.keeps c.in_ok-skip_group.ensures.keeps;
+  same = λ m h. c.in_ok-skip_group.ensures.same m (c.loop-at.invariant.same m h);
   in_hand = record {
-    scope = c.in_ok-skip_call_around.ensures.in_hand.scope ∙ c.loop-at.invariant.in_hand.scope;
-    pending = c.in_ok-skip_call_around.ensures.in_hand.pending ∙ c.loop-at.invariant.in_hand.pending;
-    reads = c.in_ok-skip_call_around.ensures.in_hand.reads ∙ c.loop-at.invariant.in_hand.reads;
+    scope = c.in_ok-skip_group.ensures.in_hand.scope ∙ c.loop-at.invariant.in_hand.scope;
+    pending = c.in_ok-skip_group.ensures.in_hand.pending ∙ c.loop-at.invariant.in_hand.pending;
+    reads = c.in_ok-skip_group.ensures.in_hand.reads ∙ c.loop-at.invariant.in_hand.reads;
   };
   longer =
-      omega (arith, c.loop-at.invariant.longer, c.in_ok-keep_run.ensures.longer, c.in_ok-skip_call_around.ensures.longer);
-  fits = c.in_ok-skip_call_around.ensures.fits;
+      omega (arith, c.loop-at.invariant.longer, c.in_ok-keep_run.ensures.longer, c.in_ok-skip_group.ensures.longer);
+  fits = c.in_ok-skip_group.ensures.fits;
   counted = λ m h.
       let e = c.loop-at.invariant.counted m h in
       let reads = ap (λ (w : WrittenGroups). w.reads) c.in_ok-keep_run.ensures.added in
-      let f = c.in_ok-skip_call_around.ensures.counted m (c.loop-at.invariant.same m h) in omega (arith, e, reads, f);
+      let f = c.in_ok-skip_group.ensures.counted m (c.loop-at.invariant.same m h) in omega (arith, e, reads, f);
   going = λ m h l tr mine since part begins.
       let i = c.next_call-stop.result in
       let owed = c.args.level.now.last.now.owed.objects in
@@ -1192,7 +1256,7 @@ skip_all-loop-at-preserved g t c = record {
       let site = c.site.ensures ∙ ap (λ (q : KeyInfo). (old_group q).site) c.group-old.ensures ∙ layer_site groups i f in
       let s = state_of c.keep_run.new.self (g.V.View.asked c.loop-at.view) mine in
       left_more groups i c.index_after-at.result k f c.index_after-at.ensures.after (reached_at (moved_group m owed fs found s at site)
-      (c.in_ok-skip_call_around.ensures.ran m (c.loop-at.invariant.same m h) l found mine since
+      (c.in_ok-skip_group.ensures.ran m (c.loop-at.invariant.same m h) l found mine since
       (layer_part f k.parts) like));
 }
 

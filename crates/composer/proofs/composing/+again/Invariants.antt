@@ -113,8 +113,11 @@ decreases-run_body g l = 8 * weight l.level.now.functions.now + 3 * (most_groups
 abbrev pub decreases-skip_call : goal.decreases-skip_call
 decreases-skip_call g l = 8 * weight l.level.now.functions.now + 2 + 3 * (most_groups - l.level.now.depth)
 
-abbrev pub decreases-skip_call_around : goal.decreases-skip_call_around
-decreases-skip_call_around g l = 8 * weight l.level.now.functions.now + 1 + 3 * (most_groups - l.level.now.depth)
+abbrev pub decreases-skip_group : goal.decreases-skip_group
+decreases-skip_group g l = 8 * weight l.level.now.functions.now + 1 + 3 * (most_groups - l.level.now.depth)
 
 abbrev pub decreases-skip_all : goal.decreases-skip_all
 decreases-skip_all g l = 8 * weight l.level.now.functions.now + 2 + 3 * (most_groups - l.level.now.depth)
+
+abbrev pub decreases-skip_inside : goal.decreases-skip_inside
+decreases-skip_inside g l = 8 * weight l.level.now.functions.now + 3 * (most_groups - l.level.now.depth)

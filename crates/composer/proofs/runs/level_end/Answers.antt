@@ -1,7 +1,11 @@
 use Rattle.std.proofs.Common.{rules, arith, ◌≡◌, ◌<◌, ◌≤◌, ◌+◌}
 use Rattle.slot_table.specs.TableGroups.{group_at}
-use Rattle.composer.proofs.QuietRuns.{level_end_is}
+use Rattle.composer.proofs.QuietRuns.{level_end_is, top_end_is}
 use Rattle.composer.proofs.runs.level_end.Goals as goal
+
+pub returns-then-depth-eq0 : goal.returns-then-depth-eq0
+returns-then-depth-eq0 c =
+    top_end_is c.args.last.now.groups c.args.first c.len-then-depth-eq0.result c.args.depth (search (rules, arith)) (search (rules, arith)) (search (rules, arith))
 
 pub returns : goal.returns
 returns c =

@@ -1,4 +1,4 @@
-use Rattle.std.proofs.Common.{◌<◌, ◌≤◌, ◌∙◌, sym, length, arith}
+use Rattle.std.proofs.Common.{◌<◌, ◌≤◌, length, arith}
 use Rattle.slot_table.specs.TableGroups.{group_at}
 use Rattle.composer.proofs.Layers.{walk_none, walk_over, walk_into}
 use Rattle.composer.proofs.SkipLoops.{index_grows}
@@ -58,5 +58,5 @@ loop-next-preserved c =
       inside = omega (arith, here);
       quiet = λ ls begins.
           walk_into c.args.last.now.owed.objects groups c.args.depth c.args.first i ls
-          (c.loop-next.invariant.quiet ls begins) low here deep (sym c.is_call.ensures ∙ c.if-is_call.false);
+          (c.loop-next.invariant.quiet ls begins) low here deep (c.is_skipped_alone.ensures c.if-is_skipped_alone.false);
     }
