@@ -1,0 +1,2 @@
+pub mod ScreenCalls
+pub mod ScreenFrames

@@ -1,0 +1,5 @@
+pub mod Openings
+pub mod Programs
+pub mod ScreenCodes
+pub mod Screens
+pub mod StateCalls
