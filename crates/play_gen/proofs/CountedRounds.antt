@@ -3,7 +3,7 @@ use Rattle.std.proofs.Common.{◌≡◌, ◌<◌, ◌-◌, ◌++◌, ℕ, ℤ, L
 use Rattle.lang_ast.specs.declared.script.ScriptForm.{ScriptForm}
 use Rattle.lang_script.specs.Scripts.{actors_of}
 use Rattle.lang_script.specs.StepCalls.{BeginFrame, EndFrame, ActorPart, script_parts}
-use Rattle.play_run.specs.RunOutput.{parts_of}
+use Rattle.play_steps.specs.PartLists.{parts_of}
 use Rattle.play_gen.specs.declared.rounds.Change.{Change}
 use Rattle.play_gen.specs.declared.rounds.Change.TheVariants as change
 use Rattle.play_gen.specs.Draws.{initial_state, next_state, draw}

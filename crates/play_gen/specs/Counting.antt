@@ -8,7 +8,8 @@ use Rattle.snap_api.specs.declared.data.Request.{Request}
 use Rattle.snap_api.specs.World.{World}
 use Rattle.lang_script.specs.Scripts.{written_out}
 use Rattle.lang_script.specs.StepCalls.{ActorPart, request_of, entry, steps_parts}
-use Rattle.play_run.specs.RunOutput.{Run, part_after, parts_after, parts_of}
+use Rattle.play_run.specs.RunOutput.{Run, part_after, parts_after}
+use Rattle.play_steps.specs.PartLists.{parts_of}
 use Rattle.play_run.specs.RunState.{RunFacts}
 use Rattle.play_gen.specs.declared.tally.Tally.{Tally}
 use Rattle.play_gen.specs.declared.counting.Counting.{Counting}

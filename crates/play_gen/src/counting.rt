@@ -9,13 +9,15 @@ ghost use Rattle.snap_api.specs.World.{World, call};
 ghost use Rattle.rt_values.specs.declared.names.Kind.TheVariants as kind_data;
 ghost use Rattle.rt_values.specs.declared.value.Value.{Value as value_data};
 ghost use Rattle.lang_script.specs.StepCalls.{Part, Take, Read, Write, WriteSum, Apply, BeginFrame, EndFrame, request_of};
-ghost use Rattle.play_run.specs.RunOutput.{Run, parts_of, parts_after};
+ghost use Rattle.play_run.specs.RunOutput.{Run, parts_after};
+ghost use Rattle.play_steps.specs.PartLists.{parts_of};
 ghost use Rattle.play_run.specs.RunState.{IsPlain, RunFacts};
 ghost use Rattle.play_gen.specs.GeneratedScript.{named_g};
 ghost use Rattle.play_gen.specs.Counting.{CountsAt, CountsParts};
 
 use crate::tally::Tally;
-use play_run::{RunMemory, WATCHER, compose, note_frame, number_taken, sum_request};
+use play_run::{RunMemory, compose, note_frame, sum_request};
+use play_steps::{WATCHER, number_taken};
 use rt_values::{Kind, Name, NoMemory, ObjectNo, Value};
 use script_lang::Flags;
 use snap_api::{Reply, Request, Versions};

@@ -21,7 +21,8 @@ use Rattle.lang_script.specs.StepCalls.{Part, EndFrame, ActorPart, of_actor, cal
 use Rattle.play_laws.specs.Woven.{actor_parts, initial_actor}
 use Rattle.play_laws.specs.Laws.{FramesAreInTurn}
 use Rattle.play_laws.proofs.Callers.{parts_are_of_script}
-use Rattle.play_laws.proofs.Turns.{Alternates, HaveNoFrame, turns}
+use Rattle.play_laws.specs.PartTurns.{Alternates}
+use Rattle.play_laws.proofs.Turns.{HaveNoFrame, turns}
 use Rattle.lang_ast.proofs.Limits.{none_in}
 
 -- Parts of steps begin and end frames in turn.

@@ -35,18 +35,9 @@ use Rattle.script_lang.specs.Lines.{ends_frame, frame_taken}
 use Rattle.play_laws.specs.Woven.{ActorState, IsWoven}
 use Rattle.play_laws.specs.FirstParts.{state_given}
 use Rattle.play_laws.specs.FramesInTurn.{OpenFrame, frame_opened, AreInTurn}
+use Rattle.play_laws.specs.PartTurns.{Alternates}
 use Rattle.play_laws.proofs.Steps.{state_at_part, state_after_reply}
 use Rattle.play_laws.proofs.Weaves.{within, first_call, later, next_actors}
-
--- A part inside of a frame or not, and what follows it. A frame begins outside, and after its end comes the outside.
-abbrev pub FrameTurn : Bool → Part → (Bool → Type 0) → Type 0
-FrameTurn inside BeginFrame rest = (inside ≡ false) × rest true
-FrameTurn inside EndFrame rest = rest false
-FrameTurn inside _ rest = rest inside
-
-abbrev pub Alternates : List ActorPart → Bool → Type 0
-Alternates [] inside = Unit {0}
-Alternates (p ∷ ps) inside = FrameTurn inside p.part (λ b. Alternates ps b)
 
 abbrev pub HasNoFrame : Part → Type 0
 HasNoFrame BeginFrame = ⊥

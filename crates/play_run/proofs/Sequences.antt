@@ -1,18 +1,14 @@
 -- Parts that are run one after the other.
-use Rattle.std.proofs.Common.{◌≡◌, ℕ, zero, suc, ◌-◌, List, [], ◌∷◌, ◌++◌, refl, sym, ap, ◌∙◌, subst, Option, None, Ok, Err, OnOk, append_assoc, ◌<◌, arith}
+use Rattle.std.proofs.Common.{◌≡◌, ℕ, List, [], ◌++◌, sym, ap, ◌∙◌, subst, Option, None, Ok, Err, OnOk, append_assoc}
 use Rattle.std.proofs.lemmas.Grind.{flat_map-append}
 use Rattle.std.specs.declared.result.Result.{Result}
 use Rattle.lang_ast.specs.Terms.{Func}
-use Rattle.lang_ast.specs.declared.script.StepForm.{StepForm}
-use Rattle.lang_ast.specs.declared.script.ScriptForm.{ScriptForm}
-use Rattle.lang_ast.specs.declared.script.ScriptForm.TheVariants.{Once, Repeat}
 use Rattle.snap_policy.specs.declared.policy.BuiltIn.{BuiltIn}
 use Rattle.snap_api.specs.World.{World}
 use Rattle.snap_api.specs.declared.data.Entry.{Entry}
-use Rattle.lang_script.specs.Scripts.{repeated_steps, times_of, written_out}
-use Rattle.lang_script.specs.StepCalls.{Part, ActorPart, of_actor, step_parts, steps_parts}
+use Rattle.lang_script.specs.StepCalls.{ActorPart}
 use Rattle.script_lang.specs.Lines.{LineStyle}
-use Rattle.play_run.specs.RunOutput.{Run, parts_lines, parts_after, parts_of}
+use Rattle.play_run.specs.RunOutput.{Run, parts_lines, parts_after}
 use Rattle.play_run.specs.RunState.{RunFacts, IsRun, RunsAt, flat}
 use Rattle.play_run.specs.RunPromise.{WritesBytes}
 use Rattle.play_run.specs.declared.memory.RunMemory.{RunMemory}
@@ -22,23 +18,6 @@ use Rattle.play_run.specs.declared.write_lines.Stop.{Stop}
 use Rattle.play_run.proofs.RunLines.{lines_append, after_append}
 use Rattle.play_run.proofs.Stops.{at_stop, stops_unmade, stops_then, stops_front}
 use Rattle.play_run.proofs.Written.{says_behind, says_front, says_same}
-
--- The parts of two lists of an actor.
-pub parts_append : (actor : ℕ) (ps qs : List Part) → parts_of actor (ps ++ qs) ≡ parts_of actor ps ++ parts_of actor qs
-parts_append actor [] qs = refl
-parts_append actor (p ∷ ps) qs = ap (λ l. of_actor actor p ∷ l) (parts_append actor ps qs)
-
-pub steps_append : (xs ys : List StepForm) → steps_parts (xs ++ ys) ≡ steps_parts xs ++ steps_parts ys
-steps_append [] ys = refl
-steps_append (x ∷ xs) ys = ap (λ l. step_parts x ++ l) (steps_append xs ys)
-    ∙ sym (append_assoc (step_parts x) (steps_parts xs) (steps_parts ys))
-
--- The first form of an actor, then the others.
-pub form_first : (f : ScriptForm) (more : List ScriptForm)
-    → written_out (f ∷ more) ≡ written_out (f ∷ []) ++ written_out more
-form_first (Once s) more = refl
-form_first (Repeat at times steps) more =
-    sym (append_assoc (repeated_steps (times_of times) steps) [] (written_out more))
 
 module _ {V : Type 0} {stands : V → World BuiltIn → Type 0} {log : V → Option (List Entry)} (t : LineStyle)
     (functions : List Func) (actor : ℕ) where
@@ -183,10 +162,3 @@ module _ {V : Type 0} {stands : V → World BuiltIn → Type 0} {log : V → Opt
       frame written written' written'' r tt (Err e) done (here ++ rest) one
       (runs_stopped t functions actor {world' = world''} {memory' = memory''} {memory'' = memory''} frame frame written'
       written'' (parts_after functions r done) e e here rest two))
-
--- The steps of a repeat that is made once more.
-pub repeated_first : (n : ℕ) (steps : List StepForm) → 0 < n
-    → repeated_steps n steps ≡ steps ++ repeated_steps (n - 1) steps
-repeated_first zero steps h = absurd (omega (arith, h))
-repeated_first (suc n) steps h =
-    let e : suc n - 1 ≡ n = omega arith in ap (λ k. steps ++ repeated_steps k steps) (sym e)

@@ -1,5 +1,5 @@
 -- Internal: what the parts of steps print and leave.
-use Rattle.std.specs.Prelude.{ℕ, List, [], ◌∷◌, ◌++◌, map, codes, if◌then◌else◌, Option, Some, None}
+use Rattle.std.specs.Prelude.{ℕ, List, [], ◌∷◌, ◌++◌, codes, if◌then◌else◌, Option, Some, None}
 use Rattle.std.specs.List.{flat_map}
 use Rattle.lang_ast.specs.declared.program.State.{State}
 use Rattle.lang_ast.specs.Terms.{Func}
@@ -8,7 +8,7 @@ use Rattle.snap_policy.specs.Table.{table}
 use Rattle.snap_api.specs.declared.data.Request.{Request}
 use Rattle.snap_api.specs.declared.data.Entry.{Entry}
 use Rattle.snap_api.specs.World.{History, call}
-use Rattle.lang_script.specs.StepCalls.{Part, ActorPart, of_actor, Notes, no_notes, request_of, notes_after, entry}
+use Rattle.lang_script.specs.StepCalls.{ActorPart, Notes, no_notes, request_of, notes_after, entry}
 use Rattle.rt_groups.specs.declared.groups.Group.{Group}
 use Rattle.script_lang.specs.declared.flags.Flags.{Flags}
 use Rattle.script_lang.specs.GroupLines.{group_lines}
@@ -71,10 +71,6 @@ abbrev pub parts_lines : LineStyle → List Func → Run → List ActorPart → 
 parts_lines style functions r [] = []
 parts_lines style functions r (p ∷ ps) =
     part_lines style functions r p ++ parts_lines style functions (part_after functions r p) ps
-
--- The parts of an actor.
-abbrev pub parts_of : ℕ → List Part → List ActorPart
-parts_of actor ps = map (of_actor actor) ps
 
 -- The lines of calls on an applier, with `--ops`.
 abbrev pub shown_ops : Flags → List Op → List ℕ

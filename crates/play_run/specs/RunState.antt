@@ -29,7 +29,8 @@ use Rattle.node_tree.specs.FrameOps.{frame_ops}
 use Rattle.play_run.specs.RunPromise.{WritesBytes, WritesAtLeast, style_of, job_functions}
 use Rattle.script_lang.specs.PrintedCalls.{printed_calls}
 use Rattle.play_run.specs.RunLog.{frames_in, ReadsOwed}
-use Rattle.play_run.specs.RunOutput.{Run, parts_of, parts_lines, parts_after}
+use Rattle.play_run.specs.RunOutput.{Run, parts_lines, parts_after}
+use Rattle.play_steps.specs.PartLists.{parts_of}
 use Rattle.play_run.specs.declared.calls.JobActor.{JobActor}
 use Rattle.play_run.specs.declared.memory.RunMemory.{RunMemory}
 use Rattle.play_run.specs.declared.write_lines.Stop.{Stop}

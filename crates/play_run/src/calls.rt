@@ -7,7 +7,7 @@ ghost use Rattle.snap_api.specs.declared.data.Request.TheVariants as request_dat
 ghost use Rattle.rt_values.specs.declared.names.Kind.{Kind as kind_data};
 ghost use Rattle.lang_ast.specs.declared.script.SnapshotRef.{SnapshotRef as snapshot_ref};
 ghost use Rattle.lang_script.specs.SnapshotNames.{snapshot_number};
-ghost use Rattle.lang_script.specs.StepCalls.{Part, Take, Read, WriteSum, request_of, number_taken, value_read, sum_request, entry, call_parts, calls_parts};
+ghost use Rattle.lang_script.specs.StepCalls.{Part, Take, Read, WriteSum, request_of, value_read, sum_request, entry, call_parts, calls_parts};
 ghost use Rattle.script_lang.specs.Lines.{call_text, reply_text, line, entry_line};
 ghost use Rattle.play_run.specs.RunOutput.{Run};
 ghost use Rattle.play_run.specs.RunPromise.{job_titles};
@@ -18,10 +18,11 @@ use crate::job::Job;
 use crate::memory::RunMemory;
 use crate::write_lines::{Stop, write_piece};
 use lang_ast::CallForm;
+use play_steps::number_taken;
 use rt_streams::Sink;
 use rt_values::operators::add;
 use rt_values::{Caller, Name, NoMemory, ObjectNo, Value, Word};
-use script_lang::{Flags, NEVER_TAKEN, add_reply_line, add_request_line};
+use script_lang::{Flags, add_reply_line, add_request_line};
 use snap_api::{Reply, Request, Versions};
 use snap_policy::BuiltIn;
 use std::alloc::Global;
@@ -133,16 +134,6 @@ fn run_part<V: Versions<P = BuiltIn>, K: Sink>(
     ensures faults { FaultsAfter (K.faults sink.old) (K.faults sink.new) result }
 {
     make_call(alloc, actor, request, &mut memory.text, world, sink)
-}
-
-/// Returns the number of the snapshot that a take gave, or a number that no snapshot has. A rule of this project.
-pub fn number_taken(reply: &Reply) -> Name
-    ensures { result ≡ number_taken reply.now }
-{
-    match reply {
-        Reply::Taken(name) => *name,
-        _ => NEVER_TAKEN,
-    }
 }
 
 // Takes a snapshot, and notes its number under `name`.

@@ -25,10 +25,11 @@ ghost use Rattle.play_run.specs.RunState.{HasAsked, MadeCalls, LogsFrameReads, L
 ghost use Rattle.play_run.specs.RunPromise.{WritesBytes, FaultsAfter};
 
 use crate::calls::{JobActor, make_call, run_calls};
-use crate::memory::{RunMemory, WATCHER};
+use crate::memory::RunMemory;
 use crate::write_lines::{Stop, write_piece};
 use lang_ast::CallForm;
 use node_tree::{Op, UnitApplier};
+use play_steps::WATCHER;
 use recomposer::{Composition, FrameStop};
 use rt_groups::Report;
 use rt_streams::Sink;

@@ -18,15 +18,15 @@ mod replaying;
 mod steps;
 mod write_lines;
 
-pub use calls::{number_taken, sum_request};
+pub use calls::sum_request;
 pub use frame::{compose, note_frame};
 pub use job::Job;
-pub use memory::{RunMemory, WATCHER};
+pub use memory::RunMemory;
 pub use open::set_up_world;
 pub use recorded::RecordedReads;
 pub use replaying::{
     ReplayFrame, ReplayMemory, begun_frame, compose_recorded, into_value, is_dispose, object_asked,
     replay,
 };
-pub use steps::{run_script, times_of};
+pub use steps::run_script;
 pub use write_lines::{Stop, write_piece};

@@ -5,13 +5,11 @@ ghost use Rattle.recomposer.specs.Compositions.{IsAt};
 ghost use Rattle.lang_script.specs.NamesInMemory.{Holds};
 
 use lang_checks::Checked;
+use play_steps::WATCHER;
 use recomposer::Composition;
-use rt_values::{NoMemory, Objects, WatcherNo};
+use rt_values::{NoMemory, Objects};
 use script_lang::NameTable;
 use std::alloc::Global;
-
-/// The number of the one watcher of frames.
-pub const WATCHER: WatcherNo = 0;
 
 /// What a run keeps between calls: the composition, the numbers of the snapshot names, and two buffers that each call
 /// and each frame reuse, for the current line and for the objects that were read.

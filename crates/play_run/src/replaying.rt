@@ -19,10 +19,10 @@ ghost use Rattle.play_run.specs.ReplayState.{as_open, frame_of, IsAnswered, IsRe
 use crate::calls::write_call;
 use crate::frame::{compose_in, note_frame, write_frame};
 use crate::job::Job;
-use crate::memory::WATCHER;
 use crate::recorded::RecordedReads;
 use crate::write_lines::Stop;
 use lang_checks::Checked;
+use play_steps::WATCHER;
 use recomposer::Composition;
 use rt_groups::Report;
 use rt_streams::Sink;

@@ -2,7 +2,7 @@
 ghost use Rattle.std.specs.Prelude.{◌≡◌, ◌≤◌, List, ℕ, Bool, true, Option, Some, None, Err, IfOk, OnOk, OnErr, [], ◌∷◌, length};
 ghost use Rattle.snap_api.specs.World.{start};
 ghost use Rattle.lang_ast.specs.declared.program.State.{State as state_data};
-ghost use Rattle.lang_script.specs.Scripts.{index_of, written_out, times_of, repeated_steps};
+ghost use Rattle.lang_script.specs.Scripts.{index_of, written_out, repeated_steps};
 ghost use Rattle.lang_script.specs.StepCalls.{step_parts, steps_parts, script_parts};
 ghost use Rattle.script_lang.specs.Lines.{run_text};
 ghost use Rattle.play_run.specs.RunPromise.{job_titles, job_style, job_functions};
@@ -17,6 +17,7 @@ use crate::memory::RunMemory;
 use crate::open::set_up_world;
 use crate::write_lines::Stop;
 use lang_ast::{ScriptForm, StepForm};
+use play_steps::times_of;
 use rt_streams::Sink;
 use script_lang::{Flags, index_of};
 use snap_api::Versions;
@@ -69,13 +70,6 @@ fn run_steps<V: Versions<P = BuiltIn>, K: Sink>(
         }
     }
     Ok(())
-}
-
-/// Returns how often the steps of a repeat are made: never if the number is negative. A rule of this project.
-pub fn times_of(times: i64) -> u64
-    ensures { result ≡ times_of times }
-{
-    if times < 0 { 0 } else { times as u64 }
 }
 
 // Makes the steps of a repeat.

@@ -1,5 +1,5 @@
 -- Actors before their first step and after their last one, and the history of all.
-use Rattle.std.proofs.Common.{◌≡◌, inl, inr, ℕ, zero, suc, ◌-◌, ◌<◌, List, [], ◌∷◌, ◌++◌, Bool, true, false, cond, length, map, refl, sym, ap, ◌∙◌, subst, None, arith, append_assoc, length-append}
+use Rattle.std.proofs.Common.{◌≡◌, inl, inr, ℕ, zero, suc, ◌-◌, ◌<◌, List, [], ◌∷◌, ◌++◌, Bool, true, false, cond, length, map, refl, sym, ap, ◌∙◌, subst, arith, append_assoc}
 use Rattle.std.proofs.lemmas.Bool.{cases_lt}
 use Rattle.std.proofs.lemmas.List.{length-map, get_or-map, get_or-append_right}
 use Rattle.std.proofs.Math.ListN.{get_or-append}
@@ -16,10 +16,11 @@ use Rattle.script_lang.specs.PrintedCalls.{reads_frame, frames_after, printed_ca
 use Rattle.lang_script.specs.StepCalls.{ActorPart, no_notes}
 use Rattle.play_laws.specs.Laws.{CanBeCompleted}
 use Rattle.play_laws.specs.FirstParts.{IsFirstPart, SpellsTo}
+use Rattle.play_laws.specs.PartTurns.{Alternates}
 use Rattle.play_laws.specs.PrintedHistory.{no_frames, with_frames, printed_from, printed_history, frames_after_calls}
 use Rattle.play_laws.specs.Woven.{actor_at, initial_actor, parts_of_actor, IsWoven, SpellsAll}
 use Rattle.play_laws.proofs.Steps.{nothing_is_spelled, all_is_spelled}
-use Rattle.play_threads.specs.ActorNotes.{IsNoted}
+use Rattle.play_steps.specs.ActorNotes.{IsNoted}
 use Rattle.play_threads.specs.ActorSteps.{CountsSnapshots, HasCome, HasActed, ActsThrough}
 use Rattle.play_threads.specs.declared.worker.Worker.{Worker}
 use Rattle.snap_shared.proofs.SplitSeats.{length_numbers as below_length}
@@ -33,14 +34,13 @@ first_none parts a seat none =
 
 -- An actor before its first step.
 pub started : {W : Type 0} (o : World BuiltIn) (parts left : List ActorPart) (a : ℕ) (w : Worker W)
-    → left ≡ parts_of_actor a parts → seen_by w.seat ≡ [] → IsNoted w.memory no_notes →
-    HasCome o (initial_actor parts a) w None left
-started o parts left a w same none noted = record {
+    → left ≡ parts_of_actor a parts → Alternates left false → seen_by w.seat ≡ [] → IsNoted w.memory no_notes →
+    HasCome o (initial_actor parts a) w left
+started o parts left a w same turn none noted = record {
   first = first_none parts a w.seat none;
   on = λ ns. record {
     notes = no_notes;
     noted = noted;
-    at_frame = refl;
     spells = subst (λ l. SpellsTo (initial_actor parts a) (printed_calls [] (own_calls (seat_number w.seat) l))
         (actor_at no_notes left)) (sym none)
         (subst (λ l. SpellsTo (initial_actor parts a) [] (actor_at no_notes l)) (sym same)
@@ -48,12 +48,13 @@ started o parts left a w same none noted = record {
     frames = ap (λ l. frames_after_calls [] (own_calls (seat_number w.seat) l)) none;
     known = λ name n found. absurd cc;
     apart = tt;
+    turn = record { inside = false; alternates = turn; outside = λ e. refl };
   };
 }
 
 -- An actor after its last step.
 pub ended : {W : Type 0} (o : World BuiltIn) (parts : List ActorPart) (a : ℕ) (w : Worker W)
-    → HasCome o (initial_actor parts a) w None [] → HasActed parts a (mine_of w.seat) w.short
+    → HasCome o (initial_actor parts a) w [] → HasActed parts a (mine_of w.seat) w.short
 ended o parts a w h = record {
   first = h.first;
   whole = λ ns. let at = h.on ns in

@@ -1,5 +1,5 @@
 -- The world in which the actors begin.
-use Rattle.std.proofs.Common.{◌≡◌, List, [], ◌∷◌, Bool, true, false, length, refl, ◌∙◌, arith}
+use Rattle.std.proofs.Common.{◌≡◌, List, [], ◌∷◌, Bool, true, false, length, refl, arith}
 use Rattle.std.proofs.lemmas.List.{length-map}
 use Rattle.rt_values.specs.Values.{type_of}
 use Rattle.rt_values.specs.declared.maps.StampedValue.{StampedValue}

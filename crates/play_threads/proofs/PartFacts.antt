@@ -1,6 +1,5 @@
 -- What the call of a part leaves of an actor's names and of its open frame.
 use Rattle.std.proofs.Common.{◌≡◌, ◌≢◌, ◌⊎◌, inl, inr, ℕ, ◌==◌, ◌<◌, List, [], ◌∷◌, ◌++◌, ◌||◌, Bool, true, false, not, cond, length, refl, sym, ap, ◌∙◌, subst, Option, Some, None, arith, append-nil, eq-eqb, ℤ}
-use Rattle.std.proofs.lemmas.Bool.Decides.{eqb_tells}
 use Rattle.std.specs.Option.{unwrap_or}
 use Rattle.std.specs.Str.{bytes_eq}
 use Rattle.std.specs.List.{filter}
@@ -28,8 +27,13 @@ use Rattle.lang_script.specs.SnapshotNames.{NamedNumber, latest, snapshot_number
 use Rattle.lang_script.specs.StepCalls.{Part, Take, Read, Write, WriteSum, Apply, Dispose, BeginFrame, EndFrame, Notes, request_of, sum_request, end_request, notes_after, number_taken, frame_begun, watcher_number}
 use Rattle.play_run.proofs.OpenFrames.{grown, taken}
 use Rattle.play_run.specs.RunState.{AreKnown}
-use Rattle.play_threads.specs.ActorSteps.{CountsSnapshots, IsApart, FrameIsApart, frame_list, MayMake}
+use Rattle.play_threads.specs.ActorSteps.{CountsSnapshots, IsApart, FrameIsApart, frame_list}
 use Rattle.play_threads.proofs.Worlds.{known_on, apart_on}
+
+-- Before a frame begins no frame is open.
+abbrev pub MayMake : Part → Option ℕ → Type 0
+MayMake BeginFrame frame = frame ≡ None
+MayMake _ frame = Unit {0}
 
 -- The notes and the open frame after the call of a part, in the world after it.
 pub record PartDone (n : Notes) (p : Part) (e : Entry) (w : World BuiltIn) : Type 0 where

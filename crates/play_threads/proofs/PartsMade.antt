@@ -1,5 +1,5 @@
 -- How far an actor has come after a part, and after the reads of a frame.
-use Rattle.std.proofs.Common.{◌≡◌, ℕ, ◌==◌, List, [], ◌∷◌, ◌++◌, ◌||◌, true, false, cond, refl, sym, ap, ◌∙◌, subst, Option, Some, eq-eqb}
+use Rattle.std.proofs.Common.{◌≡◌, ℕ, ◌==◌, List, [], ◌∷◌, ◌++◌, ◌||◌, true, false, cond, refl, sym, ap, ◌∙◌, subst, Option, Some, None, eq-eqb}
 use Rattle.std.proofs.lemmas.Option.{same_Some as some_same}
 use Rattle.rt_values.specs.Maps.{contains}
 use Rattle.snap_policy.specs.declared.policy.BuiltIn.{BuiltIn}
@@ -15,34 +15,83 @@ use Rattle.snap_shared.specs.SeatDesk.{SeatAfterReads}
 use Rattle.snap_shared.specs.Seats.{seen_by, mine_of}
 use Rattle.snap_shared.specs.SharedCalls.{own_calls, entries_added, SeesOwnCall}
 use Rattle.script_lang.specs.PrintedCalls.{printed_calls, reads_frame, frames_after}
-use Rattle.lang_script.specs.StepCalls.{Part, Take, Read, Write, WriteSum, Apply, Dispose, BeginFrame, EndFrame, ActorPart, Notes, of_actor, request_of, notes_after}
+use Rattle.lang_script.specs.StepCalls.{Part, Take, Read, Write, WriteSum, Apply, Dispose, BeginFrame, EndFrame, ActorPart, Notes, of_actor, end_request, request_of, notes_after}
 use Rattle.play_laws.specs.FirstParts.{IsFirstPart, SpellsTo}
+use Rattle.play_laws.specs.PartTurns.{Alternates}
 use Rattle.play_laws.specs.PrintedHistory.{frames_after_calls}
 use Rattle.play_laws.specs.Woven.{ActorState, actor_at}
 use Rattle.play_laws.proofs.Prints.{call_is_printed, frame_reads_are_left_out}
-use Rattle.play_laws.proofs.Steps.{call_is_spelled}
+use Rattle.play_laws.proofs.Steps.{call_is_spelled, part_is_passed}
 use Rattle.play_run.specs.RunState.{AreKnown}
-use Rattle.play_threads.specs.ActorNotes.{IsNoted}
-use Rattle.play_threads.specs.ActorSteps.{CountsSnapshots, FrameIsApart, frame_list, HasCome, IsActorAt, MayMake, frame_then}
-use Rattle.play_threads.specs.declared.memory.ActorMemory.{ActorMemory}
+use Rattle.play_steps.specs.ActorNotes.{IsNoted}
+use Rattle.play_threads.specs.ActorSteps.{CountsSnapshots, FrameIsApart, frame_list, HasCome, IsActorAt, IsInOrder}
+use Rattle.play_steps.specs.declared.memory.ActorMemory.{ActorMemory}
 use Rattle.play_threads.specs.declared.worker.Worker.{Worker}
-use Rattle.play_threads.proofs.PartFacts.{PartDone, part_done}
+use Rattle.play_threads.proofs.PartFacts.{MayMake, PartDone, part_done}
 use Rattle.play_threads.proofs.Worlds.{counts_after, longer, known_on, apart_on}
 
--- The open frame in memory after the call of a part.
-frame_next : (n : Notes) (p : Part) (r : Reply) (frame begun : Option ℕ) → n.frame ≡ frame
-    → begun ≡ (notes_after n p r).frame → (notes_after n p r).frame ≡ frame_then p frame begun
-frame_next n (Take name kind parent) r frame begun is same = is
-frame_next n (Read s x) r frame begun is same = is
-frame_next n (Write s x v) r frame begun is same = is
-frame_next n (WriteSum s x a) r frame begun is same = is
-frame_next n (Apply s) r frame begun is same = is
-frame_next n (Dispose s) r frame begun is same = is
-frame_next n BeginFrame r frame begun is same = sym same
-frame_next n EndFrame r frame begun is same = refl
+-- The next part may be made.
+may_make : (a : ℕ) (p : Part) (rest : List ActorPart) (frame : Option ℕ) → IsInOrder frame (of_actor a p ∷ rest)
+    → MayMake p frame
+may_make a (Take name kind parent) rest frame h = tt
+may_make a (Read s x) rest frame h = tt
+may_make a (Write s x v) rest frame h = tt
+may_make a (WriteSum s x z) rest frame h = tt
+may_make a (Apply s) rest frame h = tt
+may_make a (Dispose s) rest frame h = tt
+may_make a BeginFrame rest frame h = h.outside h.alternates.0
+may_make a EndFrame rest frame h = tt
 
-may_same : (p : Part) (f g : Option ℕ) → f ≡ g → MayMake p g → MayMake p f
-may_same p f g e may = subst (λ o. MayMake p o) (sym e) may
+-- The rest of the parts, after a part that keeps the open frame.
+kept_turn : (frame : Option ℕ) (p : ActorPart) (rest : List ActorPart) (h : IsInOrder frame (p ∷ rest))
+    → Alternates rest h.inside → IsInOrder frame rest
+kept_turn frame p rest h more = record { inside = h.inside; alternates = more; outside = h.outside }
+
+-- The rest of the parts, after the call of the first one.
+turn_after : (a : ℕ) (n : Notes) (p : Part) (r : Reply) (rest : List ActorPart)
+    → IsInOrder n.frame (of_actor a p ∷ rest) → IsInOrder (notes_after n p r).frame rest
+turn_after a n (Take name kind parent) r rest h =
+    kept_turn n.frame (of_actor a (Take name kind parent)) rest h h.alternates
+turn_after a n (Read s x) r rest h = kept_turn n.frame (of_actor a (Read s x)) rest h h.alternates
+turn_after a n (Write s x v) r rest h = kept_turn n.frame (of_actor a (Write s x v)) rest h h.alternates
+turn_after a n (WriteSum s x z) r rest h = kept_turn n.frame (of_actor a (WriteSum s x z)) rest h h.alternates
+turn_after a n (Apply s) r rest h = kept_turn n.frame (of_actor a (Apply s)) rest h h.alternates
+turn_after a n (Dispose s) r rest h = kept_turn n.frame (of_actor a (Dispose s)) rest h h.alternates
+turn_after a n BeginFrame r rest h =
+    record { inside = true; alternates = h.alternates.1; outside = λ e. let not : true ≡ false = e in absurd cc }
+turn_after a n EndFrame r rest h = record { inside = false; alternates = h.alternates; outside = λ e. refl }
+
+-- The rest of the parts, after a part that makes no call.
+turn_passed : (a : ℕ) (n : Notes) (p : Part) (rest : List ActorPart) → IsInOrder n.frame (of_actor a p ∷ rest)
+    → request_of n p ≡ None → IsInOrder n.frame rest
+turn_passed a n (Take name kind parent) rest h asks = absurd cc
+turn_passed a n (Read s x) rest h asks = absurd cc
+turn_passed a n (Write s x v) rest h asks = absurd cc
+turn_passed a n (WriteSum s x z) rest h asks = kept_turn n.frame (of_actor a (WriteSum s x z)) rest h h.alternates
+turn_passed a n (Apply s) rest h asks = absurd cc
+turn_passed a n (Dispose s) rest h asks = absurd cc
+turn_passed a n BeginFrame rest h asks = absurd cc
+turn_passed a n EndFrame rest h asks =
+    record { inside = false; alternates = h.alternates; outside = λ e. none n.frame asks }
+  where
+    none : (frame : Option ℕ) → end_request frame ≡ None → frame ≡ None
+    none None is = refl
+    none (Some f) is = absurd cc
+
+-- A part that makes no call is passed.
+pub part_passed : (o : World BuiltIn) (before : ActorState) (seen mine : History) (m : ActorMemory) (a : ℕ) (p : Part)
+    (rest : List ActorPart) (at : IsActorAt o before seen mine m (of_actor a p ∷ rest))
+    → request_of at.notes p ≡ None → IsActorAt o before seen mine m rest
+part_passed o before seen mine m a p rest at asks =
+    record {
+      notes = at.notes;
+      noted = at.noted;
+      spells = part_is_passed before (printed_calls [] mine) at.notes (of_actor a p) rest at.spells asks;
+      frames = at.frames;
+      known = at.known;
+      apart = at.apart;
+      turn = turn_passed a at.notes p rest at.turn asks;
+    }
 
 module _ {W : Type 0} (stands : W → World BuiltIn → Type 0) (opening : W) (o : World BuiltIn) (stood : stands opening o)
     (counts : CountsSnapshots o) (before : ActorState)
@@ -69,9 +118,8 @@ module _ {W : Type 0} (stands : W → World BuiltIn → Type 0) (opening : W) (o
   mine_grew : mine' ≡ mine ++ entry_made ∷ []
   mine_grew = grew ∙ ap (λ b. mine ++ cond b [] (entry_made ∷ [])) had
 
-  module _ (m : ActorMemory) (frame : Option ℕ) (p : Part) (rest : List ActorPart)
-      (at : IsActorAt o before seen mine m frame (of_actor a p ∷ rest)) (may : MayMake p frame)
-      (asks : request_of at.notes p ≡ Some q) where
+  module _ (m : ActorMemory) (p : Part) (rest : List ActorPart)
+      (at : IsActorAt o before seen mine m (of_actor a p ∷ rest)) (asks : request_of at.notes p ≡ Some q) where
     made : PartDone at.notes p entry_made (call table world_then number q).0
     made =
         let n = at.notes in
@@ -79,7 +127,7 @@ module _ {W : Type 0} (stands : W → World BuiltIn → Type 0) (opening : W) (o
         part_done world_then number n (counts_after o (seen ++ c.continues.between) counts)
         (known_on (world_after table o seen) world_then n.names more at.known)
         (apart_on (world_after table o seen) world_then n.names n.frame more at.apart) p q r
-        (may_same p n.frame frame at.at_frame may) asks told
+        (may_make a p rest n.frame at.turn) asks told
 
     one_printed : (printed_calls [] (mine ++ entry_made ∷ []) ≡ printed_calls [] mine ++ entry_made ∷ [])
         × (frames_after_calls [] (mine ++ entry_made ∷ []) ≡ frames_after (frames_after_calls [] mine) entry_made)
@@ -98,20 +146,20 @@ module _ {W : Type 0} (stands : W → World BuiltIn → Type 0) (opening : W) (o
     first_made = spelled_then.0
 
     pub part_made : (m' : ActorMemory) → IsNoted m' (notes_after at.notes p r)
-        → IsActorAt o before seen' mine' m' (frame_then p frame m'.frame) rest
+        → IsActorAt o before seen' mine' m' rest
     part_made m' noted =
         let n = at.notes in
         let done = made in
         record {
           notes = notes_after n p r;
           noted = noted;
-          at_frame = frame_next n p r frame m'.frame at.at_frame noted.has_frame;
           spells = spelled_then;
           frames = ap (λ l. frames_after_calls [] l) mine_grew ∙ one_printed.1
               ∙ ap (λ fs. frames_after fs entry_made) at.frames ∙ done.frames;
           known = subst (λ w. AreKnown w (notes_after n p r).names) (sym world_now) done.known;
           apart = subst (λ w. FrameIsApart w (notes_after n p r).names (notes_after n p r).frame) (sym world_now)
               done.apart;
+          turn = turn_after a n p r rest at.turn;
         }
 
 -- The reads of a frame are not printed.
@@ -120,16 +168,17 @@ pub frame_read : (o : World BuiltIn) (opens opens' : World BuiltIn → Type 0) (
     (left : List ActorPart) →
     SeatAfterReads table opens opens' seen seen' number number' opened opened' → opened ≡ Some name
     → ((n : Notes) → IsNoted m n → IsNoted m' n) →
-    IsActorAt o before seen (own_calls number seen) m (Some name) left
-    → IsActorAt o before seen' (own_calls number' seen') m' (Some name) left
-frame_read o opens opens' before seen seen' number number' opened opened' m m' name left k is same at =
+    m.frame ≡ Some name → IsActorAt o before seen (own_calls number seen) m left
+    → IsActorAt o before seen' (own_calls number' seen') m' left
+frame_read o opens opens' before seen seen' number number' opened opened' m m' name left k is same open_frame at =
     let mine = own_calls number seen in
     let n = at.notes in
     let tells = subst (λ x. LogsReadsIn (Some mine) (Some (own_calls number' seen')) number x k.read) is k.tells in
     let grew : own_calls number' seen' ≡ mine ++ tells.more = some_same _ _ tells.log_is in
     let itself : (name == name) ≡ true = eq-eqb name name refl in
     let opened_now : contains name (frames_after_calls [] mine) ≡ true =
-    ap (λ fs. contains name fs) at.frames ∙ ap (λ f. contains name (frame_list f)) at.at_frame
+    ap (λ fs. contains name fs) at.frames
+    ∙ ap (λ f. contains name (frame_list f)) (sym at.noted.has_frame ∙ open_frame)
     ∙ ap (λ b. b || false) itself in
     let unread = frame_reads_are_left_out mine tells.more number name k.read opened_now tells.reads in
     let more = longer o seen k.more in
@@ -137,7 +186,6 @@ frame_read o opens opens' before seen seen' number number' opened opened' m m' n
     record {
       notes = n;
       noted = same n at.noted;
-      at_frame = at.at_frame;
       spells = subst (λ l. SpellsTo before l (actor_at n left)) (sym (ap (λ l. printed_calls [] l) grew ∙ unread.0))
           at.spells;
       frames = ap (λ l. frames_after_calls [] l) grew ∙ unread.1 ∙ at.frames;
@@ -145,18 +193,18 @@ frame_read o opens opens' before seen seen' number number' opened opened' m m' n
           (known_on (world_after table o seen) (world_after table o (seen ++ k.more)) n.names more at.known);
       apart = subst (λ w. FrameIsApart w n.names n.frame) (sym world_same)
           (apart_on (world_after table o seen) (world_after table o (seen ++ k.more)) n.names n.frame more at.apart);
+      turn = at.turn;
     }
 
 -- A worker that has stopped, and one that goes on.
-pub came_short : {W : Type 0} (o : World BuiltIn) (before : ActorState) (w : Worker W) (frame : Option ℕ)
+pub came_short : {W : Type 0} (o : World BuiltIn) (before : ActorState) (w : Worker W)
     (left : List ActorPart) (mine : History) → mine_of w.seat ≡ mine → w.short ≡ true →
-    IsFirstPart before (printed_calls [] mine) → HasCome o before w frame left
-came_short o before w frame left mine same short first = record {
+    IsFirstPart before (printed_calls [] mine) → HasCome o before w left
+came_short o before w left mine same short first = record {
   first = subst (λ l. IsFirstPart before (printed_calls [] l)) (sym same) first;
   on = λ ns. let e : true ≡ false = sym short ∙ ns in absurd cc;
 }
 
-pub came_on : {W : Type 0} (o : World BuiltIn) (before : ActorState) (w : Worker W) (frame : Option ℕ)
-    (left : List ActorPart) →
-    IsActorAt o before (seen_by w.seat) (mine_of w.seat) w.memory frame left → HasCome o before w frame left
-came_on o before w frame left at = record { first = at.spells.0; on = λ ns. at }
+pub came_on : {W : Type 0} (o : World BuiltIn) (before : ActorState) (w : Worker W) (left : List ActorPart) →
+    IsActorAt o before (seen_by w.seat) (mine_of w.seat) w.memory left → HasCome o before w left
+came_on o before w left at = record { first = at.spells.0; on = λ ns. at }

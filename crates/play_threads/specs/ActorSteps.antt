@@ -1,5 +1,5 @@
 -- Internal: how far an actor on a thread has come with its steps, and what its seat and its memory show of that.
-use Rattle.std.specs.Prelude.{◌≡◌, ◌≢◌, ℕ, ◌==◌, ◌<◌, ◌≤◌, ◌+◌, Bool, false, List, [], ◌∷◌, ◌++◌, map, length, Option, Some, None}
+use Rattle.std.specs.Prelude.{◌≡◌, ◌≢◌, ℕ, ◌==◌, ◌<◌, ◌≤◌, ◌+◌, Bool, false, List, [], ◌∷◌, ◌++◌, length, Option, Some, None}
 use Rattle.snap_policy.specs.declared.policy.BuiltIn.{BuiltIn}
 use Rattle.snap_policy.specs.Table.{table}
 use Rattle.snap_api.specs.Valid.{IsValid}
@@ -10,19 +10,16 @@ use Rattle.snap_shared.specs.SharedCalls.{own_calls, HasOnlyCallersBelow}
 use Rattle.snap_shared.specs.declared.shared.Seat.{Seat}
 use Rattle.snap_shared.specs.declared.shared.Shared.{Shared}
 use Rattle.lang_script.specs.SnapshotNames.{NamedNumber, latest, never_taken}
-use Rattle.lang_script.specs.StepCalls.{Part, BeginFrame, EndFrame, ActorPart, Notes, of_actor, request_of}
+use Rattle.lang_script.specs.StepCalls.{Part, ActorPart, Notes, of_actor, request_of}
 use Rattle.script_lang.specs.PrintedCalls.{printed_calls}
 use Rattle.play_run.specs.RunState.{AreKnown}
 use Rattle.play_laws.specs.FirstParts.{IsFirstPart, SpellsTo}
+use Rattle.play_laws.specs.PartTurns.{Alternates}
 use Rattle.play_laws.specs.PrintedHistory.{frames_after_calls}
 use Rattle.play_laws.specs.Woven.{ActorState, actor_at, initial_actor, SpellsAll}
-use Rattle.play_threads.specs.ActorNotes.{IsNoted}
-use Rattle.play_threads.specs.declared.memory.ActorMemory.{ActorMemory}
+use Rattle.play_steps.specs.ActorNotes.{IsNoted}
+use Rattle.play_steps.specs.declared.memory.ActorMemory.{ActorMemory}
 use Rattle.play_threads.specs.declared.worker.Worker.{Worker}
-
--- The parts of one actor.
-abbrev pub by_actor : ℕ → List Part → List ActorPart
-by_actor a parts = map (of_actor a) parts
 
 -- The seat is at rest in the shared world, and its caller has this number.
 pub record IsSeated {W P : Type 0} (shared : Shared W P) (caller : ℕ) (seat : Seat W) : Type 0 where
@@ -52,58 +49,51 @@ abbrev pub frame_list : Option ℕ → List ℕ
 frame_list None = []
 frame_list (Some frame) = frame ∷ []
 
--- An actor that was in the state `before` has these parts left, and this frame open. `seen` is the shared history that
--- its seat has seen from the world `o`, and `mine` are its own calls.
+-- Frames begin and end in turn in the parts that are left, of which the first is inside of a frame if one is open.
+pub record IsInOrder (frame : Option ℕ) (left : List ActorPart) : Type 0 where
+  pub inside : Bool
+  pub alternates : Alternates left inside
+  pub outside : inside ≡ false → frame ≡ None
+
+-- An actor that was in the state `before` has these parts left. `seen` is the shared history that its seat has seen
+-- from the world `o`, and `mine` are its own calls.
 pub record IsActorAt (o : World BuiltIn) (before : ActorState) (seen mine : History) (m : ActorMemory)
-    (frame : Option ℕ) (left : List ActorPart) : Type 0 where
+    (left : List ActorPart) : Type 0 where
   pub notes : Notes
   pub noted : IsNoted m notes
-  pub at_frame : notes.frame ≡ frame
   pub spells : SpellsTo before (printed_calls [] mine) (actor_at notes left)
   pub frames : frames_after_calls [] mine ≡ frame_list notes.frame
   pub known : AreKnown (world_after table o seen) notes.names
   pub apart : FrameIsApart (world_after table o seen) notes.names notes.frame
+  pub turn : IsInOrder notes.frame left
 
 -- An actor that was in the state `before` has made the calls of a first part of its steps. Unless it has stopped, it
--- has these parts left and this frame open.
-pub record HasCome {W : Type 0} (o : World BuiltIn) (before : ActorState) (w : Worker W) (frame : Option ℕ)
+-- has these parts left.
+pub record HasCome {W : Type 0} (o : World BuiltIn) (before : ActorState) (w : Worker W)
     (left : List ActorPart) : Type 0 where
   pub first : IsFirstPart before (printed_calls [] (mine_of w.seat))
-  pub on : w.short ≡ false → IsActorAt o before (seen_by w.seat) (mine_of w.seat) w.memory frame left
+  pub on : w.short ≡ false → IsActorAt o before (seen_by w.seat) (mine_of w.seat) w.memory left
 
--- A worker that has `parts` to make, and then others, has come to where `left` are to be made of them. `frame` is the
--- open frame before, and `frame'` the one after.
+-- A worker that has `parts` to make, and then others, has come to where `left` are to be made of them.
 abbrev pub Leads : {W : Type 0} → (W → World BuiltIn → Type 0) → Shared W BuiltIn → Worker W → Worker W
-    → Option ℕ → Option ℕ → List ActorPart → List ActorPart → Type 0
-Leads stands shared w w' frame frame' parts left =
+    → List ActorPart → List ActorPart → Type 0
+Leads stands shared w w' parts left =
     (o : World BuiltIn) → stands (opening_of shared) o → CountsSnapshots o →
-    (before : ActorState) (rest : List ActorPart) →
-    HasCome o before w frame (parts ++ rest) → HasCome o before w' frame' (left ++ rest)
+    (before : ActorState) (rest : List ActorPart) → HasCome o before w (parts ++ rest) → HasCome o before w' (left ++ rest)
 
 -- A worker has made these parts.
 abbrev pub Makes : {W : Type 0} → (W → World BuiltIn → Type 0) → Shared W BuiltIn → Worker W → Worker W
-    → Option ℕ → Option ℕ → List ActorPart → Type 0
-Makes stands shared w w' frame frame' parts = Leads stands shared w w' frame frame' parts []
-
--- Before a frame begins no frame is open.
-abbrev pub MayMake : Part → Option ℕ → Type 0
-MayMake BeginFrame frame = frame ≡ None
-MayMake _ frame = Unit {0}
-
--- The open frame after a part. `begun` is the one in memory.
-abbrev pub frame_then : Part → Option ℕ → Option ℕ → Option ℕ
-frame_then BeginFrame frame begun = begun
-frame_then EndFrame frame begun = None
-frame_then _ frame begun = frame
+    → List ActorPart → Type 0
+Makes stands shared w w' parts = Leads stands shared w w' parts []
 
 -- A worker has made the call of a part, from each state in which the part makes this call.
 abbrev pub MakesCall : {W : Type 0} → (W → World BuiltIn → Type 0) → Shared W BuiltIn → ℕ → Worker W → Worker W
     → Part → Request → Type 0
 MakesCall stands shared a w w' p q =
     (o : World BuiltIn) → stands (opening_of shared) o → CountsSnapshots o →
-    (before : ActorState) (frame : Option ℕ) (rest : List ActorPart) → MayMake p frame →
-    (now : IsActorAt o before (seen_by w.seat) (mine_of w.seat) w.memory frame (of_actor a p ∷ rest)) →
-    request_of now.notes p ≡ Some q → HasCome o before w' (frame_then p frame w'.memory.frame) rest
+    (before : ActorState) (rest : List ActorPart) →
+    (now : IsActorAt o before (seen_by w.seat) (mine_of w.seat) w.memory (of_actor a p ∷ rest)) →
+    request_of now.notes p ≡ Some q → HasCome o before w' rest
 
 -- The calls of an actor with these parts are those of a first part, and all that the parts make unless it has stopped.
 pub record HasActed (parts : List ActorPart) (a : ℕ) (mine : History) (short : Bool) : Type 0 where

@@ -1,4 +1,3 @@
 pub mod WovenText
 pub mod ActorsCalls
-pub mod ActorNotes
 pub mod ActorSteps

@@ -1,11 +1,11 @@
 // Frames, each composed in its own snapshot through the actor's seat.
-ghost use Rattle.std.specs.Prelude.{◌≡◌, ◌<◌, ◌∷◌, ◌++◌, [], Option, ℕ, Some, None, false, OnOk, IsOk};
-ghost use Rattle.lang_script.specs.StepCalls.{BeginFrame, EndFrame, calls_parts};
-ghost use Rattle.play_threads.specs.ActorSteps.{by_actor, IsSeated, Makes};
+ghost use Rattle.std.specs.Prelude.{◌≡◌, ◌<◌, ◌∷◌, [], Some, false, OnOk, IsOk};
+ghost use Rattle.lang_script.specs.StepCalls.{EndFrame};
+ghost use Rattle.play_steps.specs.PartLists.{parts_of};
+ghost use Rattle.play_threads.specs.ActorSteps.{IsSeated, Makes};
 
-use crate::parts::StepPart;
-use crate::worker::{ActorRun, Worker, make_part, run_calls};
-use lang_ast::CallForm;
+use crate::worker::{ActorRun, Worker, make_part};
+use play_steps::StepPart;
 use recomposer::FrameStop;
 use rt_groups::Report;
 use rt_streams::Gate;
@@ -39,9 +39,10 @@ fn compose<'p, V: Versions<P = BuiltIn> + Drop, R: Wait, G: Gate, L: Ledger>(
     requires parts { blank.parts ≡ L.parts }
     requires some { 0 < L.parts }
     requires going { worker.short ≡ false }
+    requires open_frame { worker.memory.frame ≡ Some name }
     requires seated { IsSeated run.now.shared.now run.now.number worker.seat }
     ensures seated { IsSeated run.now.shared.now run.now.number result.0.seat }
-    ensures makes { Makes V.stands run.now.shared.now worker.entry result.0 (Some name) (Some name) [] }
+    ensures makes { Makes V.stands run.now.shared.now worker.entry result.0 [] }
 {
     let (book, share) = blank.open();
     let mut steps: Steps<L> = Steps::new(book, share);
@@ -75,10 +76,10 @@ fn finish_frame<'p, V: Versions<P = BuiltIn> + Drop, R: Wait, G: Gate>(
     worker: Worker<'p, V>,
 ) -> Worker<'p, V>
     requires going { worker.short ≡ false }
+    requires open_frame { worker.memory.frame ≡ Some name }
     requires seated { IsSeated run.now.shared.now run.now.number worker.seat }
     ensures seated { IsSeated run.now.shared.now run.now.number result.seat }
-    ensures makes { Makes V.stands run.now.shared.now worker.entry result (Some name) None
-        (by_actor run.now.number (EndFrame ∷ [])) }
+    ensures makes { Makes V.stands run.now.shared.now worker.entry result (parts_of run.now.number (EndFrame ∷ [])) }
 {
     let (mut worker, composed) = compose::<V, R, G, Brand>(run, name, worker, Blank::new(1));
     make_part(run, &StepPart::EndFrame, &mut worker);
@@ -92,15 +93,14 @@ fn finish_frame<'p, V: Versions<P = BuiltIn> + Drop, R: Wait, G: Gate>(
     }
 }
 
-// Ends a frame. The frame of a refused take has nothing to end.
-fn end_frame<'p, V: Versions<P = BuiltIn> + Drop, R: Wait, G: Gate>(
+/// Ends a frame. The frame of a refused take has nothing to end.
+pub(crate) fn end_frame<'p, V: Versions<P = BuiltIn> + Drop, R: Wait, G: Gate>(
     run: &ActorRun<'_, V, R, G>,
     mut worker: Worker<'p, V>,
 ) -> Worker<'p, V>
     requires seated { IsSeated run.now.shared.now run.now.number worker.seat }
     ensures seated { IsSeated run.now.shared.now run.now.number result.seat }
-    ensures makes { (frame : Option ℕ) → Makes V.stands run.now.shared.now worker.entry result frame None
-        (by_actor run.now.number (EndFrame ∷ [])) }
+    ensures makes { Makes V.stands run.now.shared.now worker.entry result (parts_of run.now.number (EndFrame ∷ [])) }
 {
     if worker.short {
         return worker;
@@ -112,21 +112,4 @@ fn end_frame<'p, V: Versions<P = BuiltIn> + Drop, R: Wait, G: Gate>(
             worker
         }
     }
-}
-
-/// Makes a frame: takes its snapshot, makes the steps of `during`, composes the program in the snapshot and disposes
-/// it. If the take is refused, only the steps of `during` follow.
-pub(crate) fn run_frame<'p, V: Versions<P = BuiltIn> + Drop, R: Wait, G: Gate>(
-    run: &ActorRun<'_, V, R, G>,
-    during: &[CallForm],
-    mut worker: Worker<'p, V>,
-) -> Worker<'p, V>
-    requires seated { IsSeated run.now.shared.now run.now.number worker.seat }
-    ensures seated { IsSeated run.now.shared.now run.now.number result.seat }
-    ensures makes { Makes V.stands run.now.shared.now worker.entry result None None
-        (by_actor run.now.number (BeginFrame ∷ (calls_parts during.now ++ EndFrame ∷ []))) }
-{
-    make_part(run, &StepPart::BeginFrame, &mut worker);
-    run_calls(run, during, &mut worker);
-    end_frame(run, worker)
 }

@@ -16,14 +16,10 @@ mod actors;
 mod cut;
 mod frames;
 mod laws;
-mod memory;
-mod parts;
 mod steps;
 mod threads;
 mod worker;
 
 pub use actors::{ActorsEnd, run_actors};
 pub use laws::woven_text_tells_its_history;
-pub use memory::ActorMemory;
-pub use parts::StepPart;
 pub use threads::run_threads;

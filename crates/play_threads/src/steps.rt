@@ -1,161 +1,57 @@
 // The steps of an actor, one after the other.
-ghost use Rattle.std.specs.Prelude.{◌≡◌, ◌∷◌, [], ℕ, None};
+ghost use Rattle.std.specs.Prelude.{◌≡◌, ◌∷◌, []};
 ghost use Rattle.snap_shared.specs.Seats.{seat_number, IsNewSeat};
-ghost use Rattle.lang_script.specs.Scripts.{written_out, repeated_steps};
-ghost use Rattle.lang_script.specs.StepCalls.{step_parts, steps_parts, script_parts};
-ghost use Rattle.play_laws.specs.Woven.{actor_parts};
-ghost use Rattle.play_threads.specs.ActorSteps.{by_actor, IsSeated, Makes, ActsThrough};
+ghost use Rattle.lang_script.specs.StepCalls.{script_parts};
+ghost use Rattle.play_laws.specs.Woven.{AreOf};
+ghost use Rattle.play_steps.specs.ActorNotes.{part_of};
+ghost use Rattle.play_steps.specs.PartLists.{parts_in, parts_of};
+ghost use Rattle.play_threads.specs.ActorSteps.{IsSeated, Makes, ActsThrough};
 
-use crate::frames::run_frame;
-use crate::memory::ActorMemory;
-use crate::worker::{ActorRun, Worker, run_call};
-use lang_ast::{DoForm, ScriptForm, StepForm};
-use play_run::{Job, times_of};
+use crate::frames::end_frame;
+use crate::worker::{ActorRun, Worker, make_part};
+use play_run::Job;
+use play_steps::{ActorMemory, ActorStep, StepPart, add_actor};
 use rt_streams::Gate;
-use rt_values::{Name, Word};
-use script_lang::{Script, index_of};
+use rt_values::Name;
 use snap_api::Versions;
 use snap_policy::BuiltIn;
 use snap_shared::Seat;
 use std::sync::Wait;
 
-// Makes a step.
-fn run_step<'p, V: Versions<P = BuiltIn> + Drop, R: Wait, G: Gate>(
+// Makes a part of a step. At the end of a frame the program is composed before the frame is disposed.
+fn make_step<'p, V: Versions<P = BuiltIn> + Drop, R: Wait, G: Gate>(
     run: &ActorRun<'_, V, R, G>,
-    step: &StepForm,
+    part: &StepPart<'_>,
     mut worker: Worker<'p, V>,
 ) -> Worker<'p, V>
     requires seated { IsSeated run.now.shared.now run.now.number worker.seat }
     ensures seated { IsSeated run.now.shared.now run.now.number result.seat }
-    ensures makes { Makes V.stands run.now.shared.now worker.entry result None None
-        (by_actor run.now.number (step_parts step.now)) }
+    ensures makes { Makes V.stands run.now.shared.now worker.entry result
+        (parts_of run.now.number (part_of part.now ∷ [])) }
 {
-    match step {
-        StepForm::Call(form) => {
-            run_call(run, form, &mut worker);
+    match part {
+        StepPart::EndFrame => end_frame(run, worker),
+        _ => {
+            make_part(run, part, &mut worker);
             worker
         }
-        StepForm::Frame { .. } => run_frame(run, &[], worker),
-        StepForm::FrameDuring { during, .. } => run_frame(run, during.items(), worker),
     }
 }
 
-// Makes steps, one after the other.
-fn run_steps<'p, V: Versions<P = BuiltIn> + Drop, R: Wait, G: Gate>(
+// Makes parts of the actor's steps, one after the other.
+fn make_parts<'p, V: Versions<P = BuiltIn> + Drop, R: Wait, G: Gate>(
     run: &ActorRun<'_, V, R, G>,
-    steps: &[StepForm],
+    steps: Vec<ActorStep<'_>>,
     worker: Worker<'p, V>,
 ) -> Worker<'p, V>
+    requires own { AreOf run.now.number (parts_in steps.items) }
     requires seated { IsSeated run.now.shared.now run.now.number worker.seat }
     ensures seated { IsSeated run.now.shared.now run.now.number result.seat }
-    ensures makes { Makes V.stands run.now.shared.now worker.entry result None None
-        (by_actor run.now.number (steps_parts steps.now)) }
+    ensures makes { Makes V.stands run.now.shared.now worker.entry result (parts_in steps.entry.items) }
 {
     let mut worker = worker;
-    let mut rest = steps;
-    while let Some((step, more)) = rest.split_first() {
-        worker = run_step(run, step, worker);
-        rest = more;
-    }
-    worker
-}
-
-// Makes the steps of a repeat.
-fn run_repeat<'p, V: Versions<P = BuiltIn> + Drop, R: Wait, G: Gate>(
-    run: &ActorRun<'_, V, R, G>,
-    times: u64,
-    steps: &[StepForm],
-    worker: Worker<'p, V>,
-) -> Worker<'p, V>
-    requires seated { IsSeated run.now.shared.now run.now.number worker.seat }
-    ensures seated { IsSeated run.now.shared.now run.now.number result.seat }
-    ensures makes { Makes V.stands run.now.shared.now worker.entry result None None
-        (by_actor run.now.number (steps_parts (repeated_steps times steps.now))) }
-{
-    let mut worker = worker;
-    let mut left = times;
-    while left > 0 {
-        worker = run_steps(run, steps, worker);
-        left -= 1;
-    }
-    worker
-}
-
-// Makes a step once, or the steps of a repeat.
-fn run_form<'p, V: Versions<P = BuiltIn> + Drop, R: Wait, G: Gate>(
-    run: &ActorRun<'_, V, R, G>,
-    form: &ScriptForm,
-    worker: Worker<'p, V>,
-) -> Worker<'p, V>
-    requires seated { IsSeated run.now.shared.now run.now.number worker.seat }
-    ensures seated { IsSeated run.now.shared.now run.now.number result.seat }
-    ensures makes { Makes V.stands run.now.shared.now worker.entry result None None
-        (by_actor run.now.number (steps_parts (written_out (form.now ∷ [])))) }
-{
-    match form {
-        ScriptForm::Once(step) => run_step(run, step, worker),
-        ScriptForm::Repeat { times, steps, .. } => {
-            run_repeat(run, times_of(*times), steps.items(), worker)
-        }
-    }
-}
-
-// Makes all steps of a `do` form.
-fn run_forms<'p, V: Versions<P = BuiltIn> + Drop, R: Wait, G: Gate>(
-    run: &ActorRun<'_, V, R, G>,
-    forms: &[ScriptForm],
-    worker: Worker<'p, V>,
-) -> Worker<'p, V>
-    requires seated { IsSeated run.now.shared.now run.now.number worker.seat }
-    ensures seated { IsSeated run.now.shared.now run.now.number result.seat }
-    ensures makes { Makes V.stands run.now.shared.now worker.entry result None None
-        (by_actor run.now.number (steps_parts (written_out forms.now))) }
-{
-    let mut worker = worker;
-    let mut rest = forms;
-    while let Some((form, more)) = rest.split_first() {
-        worker = run_form(run, form, worker);
-        rest = more;
-    }
-    worker
-}
-
-// Makes the steps of a `do` form, if it is the actor's.
-fn run_do_form<'p, V: Versions<P = BuiltIn> + Drop, R: Wait, G: Gate>(
-    run: &ActorRun<'_, V, R, G>,
-    actors: &[Word],
-    form: &DoForm,
-    worker: Worker<'p, V>,
-) -> Worker<'p, V>
-    requires seated { IsSeated run.now.shared.now run.now.number worker.seat }
-    ensures seated { IsSeated run.now.shared.now run.now.number result.seat }
-    ensures makes { Makes V.stands run.now.shared.now worker.entry result None None
-        (actor_parts run.now.number actors.now (form.now ∷ [])) }
-{
-    let actor = index_of(form.actor.text.bytes(), actors) as u64;
-    if actor == run.number {
-        return run_forms(run, form.steps.items(), worker);
-    }
-    worker
-}
-
-// Makes the steps of all `do` forms of the actor, in source order.
-fn run_script<'p, V: Versions<P = BuiltIn> + Drop, R: Wait, G: Gate>(
-    run: &ActorRun<'_, V, R, G>,
-    script: &Script,
-    worker: Worker<'p, V>,
-) -> Worker<'p, V>
-    requires seated { IsSeated run.now.shared.now run.now.number worker.seat }
-    ensures seated { IsSeated run.now.shared.now run.now.number result.seat }
-    ensures makes { Makes V.stands run.now.shared.now worker.entry result None None
-        (actor_parts run.now.number script.now.actors.items script.now.forms.items) }
-{
-    let actors = script.actors.as_slice();
-    let mut worker = worker;
-    let mut rest = script.forms.as_slice();
-    while let Some((form, more)) = rest.split_first() {
-        worker = run_do_form(run, actors, form, worker);
-        rest = more;
+    for step in steps {
+        worker = make_step(run, &step.part, worker);
     }
     worker
 }
@@ -209,6 +105,15 @@ pub(crate) fn run_actor<V: Versions<P = BuiltIn> + Drop, R: Wait, G: Gate>(
             failed: None,
         };
     };
+    let actors = job.script.actors.as_slice();
+    let mut steps = Vec::new(run.alloc);
+    let Ok(()) = add_actor(run.number, actors, job.script.forms.as_slice(), &mut steps) else {
+        return EndedActor {
+            seat,
+            short: true,
+            failed: None,
+        };
+    };
     let worker = Worker {
         seat,
         memory,
@@ -216,5 +121,5 @@ pub(crate) fn run_actor<V: Versions<P = BuiltIn> + Drop, R: Wait, G: Gate>(
         short: false,
         failed: None,
     };
-    end(run_script(run, &job.script, worker))
+    end(make_parts(run, steps, worker))
 }

@@ -1,14 +1,12 @@
 // The worker of an actor, and the calls of its steps.
-ghost use Rattle.std.specs.Prelude.{◌∷◌, [], Option, ℕ};
-ghost use Rattle.lang_script.specs.StepCalls.{Read, WriteSum, call_parts, calls_parts};
-ghost use Rattle.play_threads.specs.ActorNotes.{part_of};
-ghost use Rattle.play_threads.specs.ActorSteps.{by_actor, IsSeated, Makes, MakesCall, MayMake, frame_then};
+ghost use Rattle.std.specs.Prelude.{◌∷◌, []};
+ghost use Rattle.play_steps.specs.ActorNotes.{part_of};
+ghost use Rattle.play_steps.specs.PartLists.{parts_of};
+ghost use Rattle.play_threads.specs.ActorSteps.{IsSeated, Makes, MakesCall};
 
-use crate::memory::ActorMemory;
-use crate::parts::StepPart;
-use lang_ast::{CallForm, SnapshotRef};
+use play_steps::{ActorMemory, StepPart};
 use rt_streams::Gate;
-use rt_values::{Caller, Name, ObjectNo};
+use rt_values::{Caller, Name};
 use snap_api::{Request, Versions};
 use snap_policy::BuiltIn;
 use snap_shared::{Seat, Shared};
@@ -76,7 +74,7 @@ fn make_call<V: Versions<P = BuiltIn> + Drop, R: Wait, G: Gate>(
     }
 }
 
-/// Makes a part of a step.
+/// Makes the call of a part of a step, if the part makes one.
 pub(crate) fn make_part<V: Versions<P = BuiltIn> + Drop, R: Wait, G: Gate>(
     run: &ActorRun<'_, V, R, G>,
     part: &StepPart<'_>,
@@ -84,10 +82,8 @@ pub(crate) fn make_part<V: Versions<P = BuiltIn> + Drop, R: Wait, G: Gate>(
 )
     requires seated { IsSeated run.now.shared.now run.now.number worker.old.seat }
     ensures seated { IsSeated run.now.shared.now run.now.number worker.new.seat }
-    ensures makes { (frame : Option ℕ) → MayMake (part_of part.now) frame →
-        Makes V.stands run.now.shared.now worker.old worker.new frame
-        (frame_then (part_of part.now) frame worker.new.memory.frame)
-        (by_actor run.now.number (part_of part.now ∷ [])) }
+    ensures makes { Makes V.stands run.now.shared.now worker.old worker.new
+        (parts_of run.now.number (part_of part.now ∷ [])) }
 {
     if worker.short {
         return;
@@ -96,108 +92,5 @@ pub(crate) fn make_part<V: Versions<P = BuiltIn> + Drop, R: Wait, G: Gate>(
         Ok(Some(request)) => make_call(run, part, request, worker),
         Ok(None) => (),
         Err(_) => worker.short = true,
-    }
-}
-
-// Makes an `add`: reads the object, and then writes the sum.
-fn run_add<V: Versions<P = BuiltIn> + Drop, R: Wait, G: Gate>(
-    run: &ActorRun<'_, V, R, G>,
-    snapshot: &SnapshotRef,
-    object: ObjectNo,
-    amount: i64,
-    worker: &mut Worker<'_, V>,
-)
-    requires seated { IsSeated run.now.shared.now run.now.number worker.old.seat }
-    ensures seated { IsSeated run.now.shared.now run.now.number worker.new.seat }
-    ensures makes { (frame : Option ℕ) → Makes V.stands run.now.shared.now worker.old worker.new frame frame
-        (by_actor run.now.number (Read snapshot.now object ∷ WriteSum snapshot.now object amount ∷ [])) }
-{
-    let read = StepPart::Read { snapshot, object };
-    let write = StepPart::WriteSum {
-        snapshot,
-        object,
-        amount,
-    };
-    make_part(run, &read, worker);
-    make_part(run, &write, worker);
-}
-
-/// Makes a step without inner steps.
-pub(crate) fn run_call<V: Versions<P = BuiltIn> + Drop, R: Wait, G: Gate>(
-    run: &ActorRun<'_, V, R, G>,
-    form: &CallForm,
-    worker: &mut Worker<'_, V>,
-)
-    requires seated { IsSeated run.now.shared.now run.now.number worker.old.seat }
-    ensures seated { IsSeated run.now.shared.now run.now.number worker.new.seat }
-    ensures makes { (frame : Option ℕ) → Makes V.stands run.now.shared.now worker.old worker.new frame frame
-        (by_actor run.now.number (call_parts form.now)) }
-{
-    match form {
-        CallForm::Take {
-            name,
-            kind,
-            parent,
-            ..
-        } => {
-            let part = StepPart::Take {
-                name: &name.text,
-                kind: *kind,
-                parent,
-            };
-            make_part(run, &part, worker)
-        }
-        CallForm::Read {
-            snapshot,
-            object,
-            ..
-        } => {
-            let part = StepPart::Read {
-                snapshot,
-                object: *object,
-            };
-            make_part(run, &part, worker)
-        }
-        CallForm::Write {
-            snapshot,
-            object,
-            value,
-            ..
-        } => {
-            let part = StepPart::Write {
-                snapshot,
-                object: *object,
-                value,
-            };
-            make_part(run, &part, worker)
-        }
-        CallForm::Add {
-            snapshot,
-            object,
-            amount,
-            ..
-        } => run_add(run, snapshot, *object, *amount, worker),
-        CallForm::Apply { snapshot, .. } => make_part(run, &StepPart::Apply { snapshot }, worker),
-        CallForm::Dispose { snapshot, .. } => {
-            make_part(run, &StepPart::Dispose { snapshot }, worker)
-        }
-    }
-}
-
-/// Makes steps without inner steps, one after the other.
-pub(crate) fn run_calls<V: Versions<P = BuiltIn> + Drop, R: Wait, G: Gate>(
-    run: &ActorRun<'_, V, R, G>,
-    forms: &[CallForm],
-    worker: &mut Worker<'_, V>,
-)
-    requires seated { IsSeated run.now.shared.now run.now.number worker.old.seat }
-    ensures seated { IsSeated run.now.shared.now run.now.number worker.new.seat }
-    ensures makes { (frame : Option ℕ) → Makes V.stands run.now.shared.now worker.old worker.new frame frame
-        (by_actor run.now.number (calls_parts forms.now)) }
-{
-    let mut rest = forms;
-    while let Some((form, more)) = rest.split_first() {
-        run_call(run, form, worker);
-        rest = more;
     }
 }

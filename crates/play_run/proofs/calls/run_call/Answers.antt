@@ -3,7 +3,7 @@ use Rattle.std.specs.Int.{w64}
 use Rattle.std.proofs.Common.{rules, ◌∙◌, ap, sym, Some, [], ◌∷◌}
 use Rattle.snap_api.specs.declared.data.Request.TheVariants as request
 use Rattle.lang_script.specs.StepCalls.{Read, Write, WriteSum, Apply, Dispose, call_parts}
-use Rattle.play_run.specs.RunOutput.{parts_of}
+use Rattle.play_steps.specs.PartLists.{parts_of}
 use Rattle.play_run.specs.RunPromise.{job_style, job_functions}
 use Rattle.play_run.proofs.Sequences.{runs_same}
 use Rattle.play_run.proofs.calls.run_call.Goals as goal

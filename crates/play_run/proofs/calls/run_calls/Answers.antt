@@ -1,8 +1,10 @@
 use Rattle.std.proofs.Common.{◌++◌, ◌∙◌, ap}
 use Rattle.lang_script.specs.StepCalls.{call_parts, calls_parts}
-use Rattle.play_run.specs.RunOutput.{parts_of, parts_after}
+use Rattle.play_run.specs.RunOutput.{parts_after}
+use Rattle.play_steps.specs.PartLists.{parts_of}
 use Rattle.play_run.specs.RunPromise.{job_style, job_functions}
-use Rattle.play_run.proofs.Sequences.{parts_append, loop_next, loop_stopped}
+use Rattle.play_steps.proofs.PartsAdded.{parts_append}
+use Rattle.play_run.proofs.Sequences.{loop_next, loop_stopped}
 use Rattle.play_run.proofs.calls.run_calls.Goals as goal
 
 pub loop-form-preserved : goal.loop-form-preserved

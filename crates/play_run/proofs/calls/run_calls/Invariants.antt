@@ -1,6 +1,7 @@
 use Rattle.std.proofs.Common.{◌≡◌, ◌++◌, length, List, ℕ, Option, Ok}
 use Rattle.lang_script.specs.StepCalls.{ActorPart, calls_parts}
-use Rattle.play_run.specs.RunOutput.{Run, parts_of}
+use Rattle.play_run.specs.RunOutput.{Run}
+use Rattle.play_steps.specs.PartLists.{parts_of}
 use Rattle.play_run.specs.RunPromise.{job_style, job_functions}
 use Rattle.play_run.specs.RunState.{IsRun, RunsAt}
 use Rattle.play_run.proofs.calls.run_calls.Given as goal

@@ -1,8 +1,10 @@
 use Rattle.std.proofs.Common.{◌++◌, ◌∷◌, [], sym, ap, None, Err}
 use Rattle.lang_script.specs.StepCalls.{BeginFrame, EndFrame, calls_parts}
-use Rattle.play_run.specs.RunOutput.{parts_of, parts_after}
+use Rattle.play_run.specs.RunOutput.{parts_after}
+use Rattle.play_steps.specs.PartLists.{parts_of}
 use Rattle.play_run.specs.RunPromise.{job_style, job_functions}
-use Rattle.play_run.proofs.Sequences.{parts_append, runs_stopped, runs_then, runs_same}
+use Rattle.play_steps.proofs.PartsAdded.{parts_append}
+use Rattle.play_run.proofs.Sequences.{runs_stopped, runs_then, runs_same}
 use Rattle.play_run.proofs.frame.run_frame.Goals as goal
 
 pub returns-in-Err-clause-runs : goal.returns-in-Err-clause-runs

@@ -1,7 +1,8 @@
 use Rattle.std.proofs.Common.{◌≡◌, ◌++◌, ◌∙◌, [], ap, sym, refl, None, Ok, Err}
 use Rattle.lang_script.specs.Scripts.{index_of, written_out}
 use Rattle.lang_script.specs.StepCalls.{steps_parts, script_parts}
-use Rattle.play_run.specs.RunOutput.{parts_of, parts_after}
+use Rattle.play_run.specs.RunOutput.{parts_after}
+use Rattle.play_steps.specs.PartLists.{parts_of}
 use Rattle.play_run.specs.RunPromise.{job_style, job_functions}
 use Rattle.play_run.proofs.Sequences.{loop_next, loop_stopped, runs_as, run_as, runs_none}
 use Rattle.play_run.proofs.Written.{says_none}

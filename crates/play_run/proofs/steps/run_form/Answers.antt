@@ -1,7 +1,7 @@
 use Rattle.std.proofs.Common.{◌≡◌, ◌∷◌, [], ◌∙◌, sym, ap, None, append-nil, rules}
 use Rattle.lang_script.specs.Scripts.{written_out, repeated_steps, times_of}
 use Rattle.lang_script.specs.StepCalls.{step_parts, steps_parts}
-use Rattle.play_run.specs.RunOutput.{parts_of}
+use Rattle.play_steps.specs.PartLists.{parts_of}
 use Rattle.play_run.specs.RunPromise.{job_style, job_functions}
 use Rattle.play_run.proofs.Sequences.{runs_same}
 use Rattle.play_run.proofs.steps.run_form.Goals as goal

@@ -2,9 +2,11 @@ use Rattle.std.proofs.Common.{◌++◌, ◌∙◌, ap, None}
 use Rattle.lang_script.specs.StepCalls.{steps_parts}
 use Rattle.std.proofs.Common.{◌∷◌, []}
 use Rattle.lang_script.specs.Scripts.{written_out}
-use Rattle.play_run.specs.RunOutput.{parts_of, parts_after}
+use Rattle.play_run.specs.RunOutput.{parts_after}
+use Rattle.play_steps.specs.PartLists.{parts_of}
 use Rattle.play_run.specs.RunPromise.{job_style, job_functions}
-use Rattle.play_run.proofs.Sequences.{parts_append, steps_append, form_first, loop_next, loop_stopped}
+use Rattle.play_steps.proofs.PartsAdded.{parts_append, steps_append, form_first}
+use Rattle.play_run.proofs.Sequences.{loop_next, loop_stopped}
 use Rattle.play_run.proofs.steps.run_forms.Goals as goal
 
 pub loop-form-preserved : goal.loop-form-preserved

@@ -1,7 +1,8 @@
 use Rattle.std.proofs.Common.{◌≡◌, ◌++◌, length, List, None, Ok}
 use Rattle.lang_script.specs.StepCalls.{ActorPart, steps_parts}
 use Rattle.lang_script.specs.Scripts.{written_out}
-use Rattle.play_run.specs.RunOutput.{Run, parts_of}
+use Rattle.play_run.specs.RunOutput.{Run}
+use Rattle.play_steps.specs.PartLists.{parts_of}
 use Rattle.play_run.specs.RunPromise.{job_style, job_functions}
 use Rattle.play_run.specs.RunState.{IsRun, RunsAt}
 use Rattle.play_run.proofs.steps.run_forms.Given as goal

@@ -1,9 +1,11 @@
 use Rattle.std.proofs.Common.{◌++◌, ◌-◌, ◌∙◌, ◌<◌, ◌≡◌, ap, sym, None, Ok, arith, append-nil, [], refl}
 use Rattle.lang_script.specs.Scripts.{repeated_steps}
 use Rattle.lang_script.specs.StepCalls.{steps_parts}
-use Rattle.play_run.specs.RunOutput.{parts_of, parts_after}
+use Rattle.play_run.specs.RunOutput.{parts_after}
+use Rattle.play_steps.specs.PartLists.{parts_of}
 use Rattle.play_run.specs.RunPromise.{job_style, job_functions}
-use Rattle.play_run.proofs.Sequences.{parts_append, steps_append, repeated_first, loop_next, loop_stopped, runs_none, runs_same}
+use Rattle.play_steps.proofs.PartsAdded.{parts_append, steps_append, repeated_first}
+use Rattle.play_run.proofs.Sequences.{loop_next, loop_stopped, runs_none, runs_same}
 use Rattle.play_run.proofs.Written.{says_none}
 use Rattle.play_run.proofs.steps.run_repeat.Goals as goal
 

@@ -1,6 +1,6 @@
 use Rattle.std.proofs.Common.{◌++◌, ◌∷◌, [], ◌∙◌, sym, ap, None}
 use Rattle.lang_script.specs.StepCalls.{BeginFrame, EndFrame, calls_parts, step_parts}
-use Rattle.play_run.specs.RunOutput.{parts_of}
+use Rattle.play_steps.specs.PartLists.{parts_of}
 use Rattle.play_run.specs.RunPromise.{job_style, job_functions}
 use Rattle.play_run.proofs.Sequences.{runs_same}
 use Rattle.play_run.proofs.steps.run_step.Goals as goal

@@ -1,8 +1,10 @@
 use Rattle.std.proofs.Common.{◌++◌, ◌∙◌, ap, None}
 use Rattle.lang_script.specs.StepCalls.{step_parts, steps_parts}
-use Rattle.play_run.specs.RunOutput.{parts_of, parts_after}
+use Rattle.play_run.specs.RunOutput.{parts_after}
+use Rattle.play_steps.specs.PartLists.{parts_of}
 use Rattle.play_run.specs.RunPromise.{job_style, job_functions}
-use Rattle.play_run.proofs.Sequences.{parts_append, loop_next, loop_stopped}
+use Rattle.play_steps.proofs.PartsAdded.{parts_append}
+use Rattle.play_run.proofs.Sequences.{loop_next, loop_stopped}
 use Rattle.play_run.proofs.steps.run_steps.Goals as goal
 
 pub loop-step-preserved : goal.loop-step-preserved

@@ -1,0 +1,2 @@
+pub mod ActorNotes
+pub mod PartLists
