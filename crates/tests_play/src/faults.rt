@@ -1,13 +1,18 @@
-// Frames over an applier whose calls fail.
-ghost use Rattle.std.specs.Prelude.{◌≡◌, ◌<◌};
+// Frames over an applier whose calls fail, and whose tree is known.
+ghost use Rattle.std.specs.Prelude.{◌≡◌, ◌<◌, ◌+◌, IfOk, OnOk};
+ghost use Rattle.rt_values.specs.Maps.{Map};
+ghost use Rattle.recomposer.specs.AppliedFrames.{MayCall};
+ghost use Rattle.recomposer.specs.Compositions.{IsAt};
+ghost use Rattle.recomposer.specs.FrameContracts.{ComposesShown, DrivesApplier};
+ghost use Rattle.tests_play.specs.KnownTrees.{HasOneObject, IsBefore};
 
-use crate::map_view::{MapView, view_of};
+use crate::map_view::MapView;
 use crate::programs::checked_program;
 use lang_checks::Checked;
-use node_tree::{FailingApplier, Op, Ops, UnitApplier};
+use node_tree::{Applier, FailingApplier, NodeRef, NodeTree, Op, Ops};
 use recomposer::{Composition, FrameStop};
-use rt_groups::Report;
-use rt_values::Steps;
+use rt_groups::{Attribute, Report};
+use rt_values::{IntList, Map, Objects, StampedValue, Steps, Value};
 use std::alloc::Global;
 use std::marker::Brand;
 use std::sync::ledger::{Blank, Ledger};
@@ -24,36 +29,60 @@ const FIRST: u64 = 6;
 // The calls of the frame in which the three items are in another order: for each row `down`, `set` and `up`.
 const SECOND: u64 = 9;
 
-type Failing = FailingApplier<UnitApplier>;
+// Returns a view of the map in which object 0 is a list of `items` with this stamp.
+fn view_at(alloc: Global, items: &[i64], stamp: u64) -> Result<MapView, Fail>
+    ensures { IfOk result (λ v. HasOneObject stamp v.map) }
+{
+    let mut list = IntList::new(alloc)?;
+    list.extend(items)?;
+    let mut map = Map::new(alloc);
+    map.push(StampedValue {
+        value: Value::Ints(list),
+        stamp,
+    })?;
+    Ok(MapView {
+        map,
+        asked: Objects::new(alloc),
+    })
+}
 
 // Composes what the frame owes, and makes its calls on the applier. `blank` is the ledger of the steps, which no test
 // reads.
-fn recompose_counting<L: Ledger>(
+fn recompose_counting<A: Applier, L: Ledger>(
     alloc: Global,
     composition: &mut Composition,
     view: &mut MapView,
-    applier: &mut Failing,
+    applier: &mut A,
     blank: Blank,
 ) -> Result<Report, FrameStop>
+    requires tree { MayCall (A.tree applier.old)
+        (λ k. (m : Map) × IsAt composition.old k (Some m) × (view.old.map ≡ m)) }
     requires name { blank.name ≡ L.name }
     requires parts { blank.parts ≡ L.parts }
     requires some { 0 < L.parts }
+    ensures frame { ComposesShown composition.old composition.new (λ m. view.old.map ≡ m) result }
+    ensures applier { DrivesApplier A.tree A.faults applier.old applier.new composition.old composition.new
+        (λ m. view.old.map ≡ m) result }
 {
     let (book, share) = blank.open();
     let mut steps: Steps<L> = Steps::new(book, share);
     composition.recompose_with(alloc, view, applier, &mut steps)
 }
 
-// Makes a frame in which the list has these items.
-fn frame_with(
+// Makes a frame in which the list has these items, with a higher stamp than in the frame before it.
+fn frame_with<A: Applier>(
     alloc: Global,
     composition: &mut Composition,
     items: &[i64],
-    applier: &mut Failing,
-) -> Result<Result<Report, FrameStop>, Fail> {
-    let mut view = view_of(alloc, items, &[])?;
+    stamp: u64,
+    applier: &mut A,
+) -> Result<Result<Report, FrameStop>, Fail>
+    requires { IsBefore stamp composition.old (A.tree applier.old) }
+    ensures { OnOk result (IsBefore (stamp + 1) composition.new (A.tree applier.new)) }
+{
+    let mut view = view_at(alloc, items, stamp)?;
     composition.note(&[0]);
-    Ok(recompose_counting::<Brand>(alloc, composition, &mut view, applier, Blank::new(1)))
+    Ok(recompose_counting::<A, Brand>(alloc, composition, &mut view, applier, Blank::new(1)))
 }
 
 // Whether this call inserts the node with this number at this index.
@@ -86,14 +115,46 @@ fn clears_and_inserts(ops: &Ops, numbers: [u64; 3]) -> bool {
     matches!(clear, Op::Clear) && inserts_three(calls, numbers)
 }
 
+// Whether the attributes are one item, of this value.
+fn is_item(attributes: &[Attribute], item: i64) -> bool {
+    match attributes.first() {
+        Some(
+            Attribute {
+                name,
+                value: Value::Int(number),
+            },
+        ) => attributes.len() == 1 && name.bytes() == b"item".as_slice() && *number == item,
+        _ => false,
+    }
+}
+
+// Whether the nodes are rows of these items, in order, with the numbers from `first` on.
+fn are_rows(nodes: &[NodeRef], items: &[i64], first: u64) -> bool {
+    let mut number = first;
+    for (node, item) in nodes.iter().zip(items) {
+        if node.inner != 0
+            || node.number != number
+            || node.kind.bytes() != b"Row".as_slice()
+            || !is_item(node.attributes, *item)
+        {
+            return false;
+        }
+        number = number.wrapping_add(1);
+    }
+    nodes.len() == items.len()
+}
+
 // Makes a frame whose call fails. Returns whether nothing but the next number is kept, and the calls of the last good
 // frame are lent.
-fn fails_and_keeps_the_number(
+fn fails_and_keeps_the_number<A: Applier>(
     alloc: Global,
     composition: &mut Composition,
-    applier: &mut Failing,
-) -> Result<bool, Fail> {
-    let refused = frame_with(alloc, composition, &[3, 1, 2], applier)?;
+    applier: &mut A,
+) -> Result<bool, Fail>
+    requires { IsBefore 2 composition.old (A.tree applier.old) }
+    ensures { OnOk result (IsBefore 3 composition.new (A.tree applier.new)) }
+{
+    let refused = frame_with(alloc, composition, &[3, 1, 2], 2, applier)?;
     Ok(
         matches!(refused, Err(FrameStop::ApplierFault))
             && composition.next() == 4
@@ -102,24 +163,54 @@ fn fails_and_keeps_the_number(
     )
 }
 
-// Makes a good frame, one after it, in which call number `failing` fails, and a third one. Returns whether the last one
-// begins anew.
-fn fails_and_recovers(alloc: Global, program: &Checked, failing: u64) -> Result<bool, Fail> {
-    let mut composition = Composition::new(alloc, program, 0)?;
-    let mut applier = FailingApplier::new(UnitApplier, vec![in alloc; failing]?);
-    let first = frame_with(alloc, &mut composition, &[1, 2, 3], &mut applier)?;
+// Makes a good frame, one after it, whose call fails, and a third one. Returns whether the last one clears the tree and
+// makes all nodes again with new numbers.
+fn recovers<A: Applier>(
+    alloc: Global,
+    composition: &mut Composition,
+    applier: &mut A,
+) -> Result<bool, Fail>
+    requires { IsBefore 1 composition.old (A.tree applier.old) }
+{
+    let first = frame_with(alloc, composition, &[1, 2, 3], 1, applier)?;
     if !matches!(first, Ok(Report { nodes: 3, .. }))
         || !inserts_three(composition.ops().items(), [1, 2, 3])
     {
         return Ok(false);
     }
-    if !fails_and_keeps_the_number(alloc, &mut composition, &mut applier)? {
+    if !fails_and_keeps_the_number(alloc, composition, applier)? {
         return Ok(false);
     }
-    let last = frame_with(alloc, &mut composition, &[3, 1, 2], &mut applier)?;
+    let last = frame_with(alloc, composition, &[3, 1, 2], 3, applier)?;
     Ok(
         matches!(last, Ok(Report { nodes: 3, .. }))
             && clears_and_inserts(composition.ops(), [4, 5, 6]),
+    )
+}
+
+// Lists the nodes of the tree. Returns whether they are rows of these items, with the numbers from `first` on.
+fn lists_rows(alloc: Global, tree: &NodeTree, items: &[i64], first: u64) -> Result<bool, Fail> {
+    Ok(are_rows(&tree.list(alloc)?, items, first))
+}
+
+// Makes the first frame of a composition from scratch. Returns whether its tree has the rows of these items, with the
+// numbers from 1 on.
+fn makes_rows(alloc: Global, program: &Checked, items: &[i64]) -> Result<bool, Fail> {
+    let mut composition = Composition::new(alloc, program, 0)?;
+    let mut tree = NodeTree::new(alloc);
+    let made = frame_with(alloc, &mut composition, items, 1, &mut tree)?;
+    Ok(matches!(made, Ok(_)) && lists_rows(alloc, &tree, items, 1)?)
+}
+
+// Makes frames over an applier whose call number `failing` fails. Returns whether the frame after the fault begins
+// anew, and its tree has the nodes of a composition from scratch, with new numbers.
+fn fails_and_recovers(alloc: Global, program: &Checked, failing: u64) -> Result<bool, Fail> {
+    let mut composition = Composition::new(alloc, program, 0)?;
+    let mut applier = FailingApplier::new(NodeTree::new(alloc), vec![in alloc; failing]?);
+    Ok(
+        recovers(alloc, &mut composition, &mut applier)?
+            && lists_rows(alloc, applier.inner(), &[3, 1, 2], 4)?
+            && makes_rows(alloc, program, &[3, 1, 2])?,
     )
 }
 
