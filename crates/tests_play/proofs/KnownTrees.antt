@@ -98,6 +98,17 @@ at_first c tree at is = record {
   mirrors = subst (λ o. Mirrors o no_last_frame) (sym is) (λ attached. refl);
 }
 
+-- The first frame of a new composition may come if the applier does not know its tree.
+pub at_first_unknown : (c : Composition) (tree : Option CursorTree) → ((l : Option Map) → IsAt c no_last_frame l)
+    → tree ≡ None → IsBefore 1 c tree
+at_first_unknown c tree at is = record {
+  kept = no_last_frame;
+  last = None;
+  is_at = at None;
+  earlier = tt;
+  mirrors = subst (λ o. Mirrors o no_last_frame) (sym is) tt;
+}
+
 -- After a frame the next one may come, whether it was good, was refused, or its applier failed.
 pub after_frame : {A : Type 0} (tree : A → Option CursorTree) (faults : A → ℕ) (old new : A) (c c' : Composition)
     (stamp : ℕ) (m : Map) (result : Result Report FrameStop) (k : LastFrame) → IsAt c k (Some m)

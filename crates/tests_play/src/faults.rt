@@ -1,4 +1,4 @@
-// Frames over an applier whose calls fail, and whose tree is known.
+// Frames over appliers whose calls fail: one whose tree is known, and one without a tree.
 ghost use Rattle.std.specs.Prelude.{◌≡◌, ◌<◌, ◌+◌, IfOk, OnOk};
 ghost use Rattle.rt_values.specs.Maps.{Map};
 ghost use Rattle.recomposer.specs.AppliedFrames.{MayCall};
@@ -9,7 +9,7 @@ ghost use Rattle.tests_play.specs.KnownTrees.{HasOneObject, IsBefore};
 use crate::map_view::MapView;
 use crate::programs::checked_program;
 use lang_checks::Checked;
-use node_tree::{Applier, FailingApplier, NodeRef, NodeTree, Op, Ops};
+use node_tree::{Applier, FailingApplier, NodeRef, NodeTree, Op, Ops, UnitApplier};
 use recomposer::{Composition, FrameStop};
 use rt_groups::{Attribute, Report};
 use rt_values::{IntList, Map, Objects, StampedValue, Steps, Value};
@@ -202,25 +202,36 @@ fn makes_rows(alloc: Global, program: &Checked, items: &[i64]) -> Result<bool, F
     Ok(matches!(made, Ok(_)) && lists_rows(alloc, &tree, items, 1)?)
 }
 
-// Makes frames over an applier whose call number `failing` fails. Returns whether the frame after the fault begins
-// anew, and its tree has the nodes of a composition from scratch, with new numbers.
+// Makes frames over a tree whose call number `failing` fails. Returns whether the frame after the fault begins anew,
+// and the tree has its rows, with new numbers.
 fn fails_and_recovers(alloc: Global, program: &Checked, failing: u64) -> Result<bool, Fail> {
     let mut composition = Composition::new(alloc, program, 0)?;
     let mut applier = FailingApplier::new(NodeTree::new(alloc), vec![in alloc; failing]?);
     Ok(
         recovers(alloc, &mut composition, &mut applier)?
-            && lists_rows(alloc, applier.inner(), &[3, 1, 2], 4)?
-            && makes_rows(alloc, program, &[3, 1, 2])?,
+            && lists_rows(alloc, applier.inner(), &[3, 1, 2], 4)?,
     )
+}
+
+// Makes the three frames over an applier without a tree. Returns whether the last one begins anew.
+fn recovers_without_tree(alloc: Global, program: &Checked, failing: u64) -> Result<bool, Fail> {
+    let mut composition = Composition::new(alloc, program, 0)?;
+    let mut applier = FailingApplier::new(UnitApplier, vec![in alloc; failing]?);
+    recovers(alloc, &mut composition, &mut applier)
 }
 
 // Whichever call of a frame fails, the frame after it clears the tree, and makes all nodes again with new numbers.
 #[test]
 fn fault_of_the_applier_clears_the_tree_and_uses_up_numbers(rt: HostRuntime) -> Result<(), Fail> {
     let program = checked_program(rt.alloc(), PROGRAM.as_bytes())?;
+    assert!(rt; makes_rows(rt.alloc(), &program, &[3, 1, 2])?);
     for failing in FIRST + 1..=FIRST + SECOND {
         assert!(rt;
             fails_and_recovers(rt.alloc(), &program, failing)?,
+            "{failing}"
+        );
+        assert!(rt;
+            recovers_without_tree(rt.alloc(), &program, failing)?,
             "{failing}"
         );
     }
