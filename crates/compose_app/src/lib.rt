@@ -1,6 +1,6 @@
 //! A composition with all that it needs, for programs that embed the runtime.
 //!
-//! `open` reads a program from its text. `Screen` keeps a composition of it, the world of its states and an applier, as
+//! `open` parses and checks a program. `Screen` keeps a composition of it, the world of its states and an applier, as
 //! `Recomposer` and a `Composition` of Compose do together: states are written by their names, and `frame` brings the
 //! applier's tree up to date.
 //! Promises: after a good frame the applier's tree is that of composing from scratch in the values of the states, with

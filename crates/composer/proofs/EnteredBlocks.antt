@@ -91,8 +91,8 @@ pub then_same : {U A : Type 0} (a b c : A) (result : Result U ComposeStop) → O
 then_same a b c (Ok u) e f = e ∙ f
 then_same a b c (Err x) e f = tt
 
-pub counted_then : {U : Type 0} (result : Result U ComposeStop) (w w1 w2 own own1 own2 a a1 a2 : ℕ)
-    → w1 + own1 + a ≡ w + own + a1 → OnOk result (w2 + own2 + a1 ≡ w1 + own1 + a2)
-    → OnOk result (w2 + own2 + a ≡ w + own + a2)
-counted_then (Ok u) w w1 w2 own own1 own2 a a1 a2 e f = omega (arith, e, f)
-counted_then (Err x) w w1 w2 own own1 own2 a a1 a2 e f = tt
+pub counted_then : {U : Type 0} (result : Result U ComposeStop) (w w' w'' own own' own'' a a' a'' : ℕ)
+    → w' + own' + a ≡ w + own + a' → OnOk result (w'' + own'' + a' ≡ w' + own' + a'')
+    → OnOk result (w'' + own'' + a ≡ w + own + a'')
+counted_then (Ok u) w w' w'' own own' own'' a a' a'' e f = omega (arith, e, f)
+counted_then (Err x) w w' w'' own own' own'' a a' a'' e f = tt

@@ -23,7 +23,8 @@ fn add_call<'s>(
     form: &'s CallForm,
     parts: &mut Vec<ActorStep<'s>>,
 ) -> Result<(), NoMemory>
-    ensures { OnOk result (parts_in parts.new.items ≡ parts_in parts.old.items ++ parts_of actor (call_parts form.now)) }
+    ensures { OnOk result (parts_in parts.new.items
+        ≡ parts_in parts.old.items ++ parts_of actor (call_parts form.now)) }
 {
     let part = match form {
         CallForm::Take {
@@ -86,7 +87,8 @@ fn add_calls<'s>(
     forms: &'s [CallForm],
     parts: &mut Vec<ActorStep<'s>>,
 ) -> Result<(), NoMemory>
-    ensures { OnOk result (parts_in parts.new.items ≡ parts_in parts.old.items ++ parts_of actor (calls_parts forms.now)) }
+    ensures { OnOk result (parts_in parts.new.items
+        ≡ parts_in parts.old.items ++ parts_of actor (calls_parts forms.now)) }
 {
     let mut rest = forms;
     while let Some((form, more)) = rest.split_first() {
@@ -123,7 +125,8 @@ fn add_step<'s>(
     step: &'s StepForm,
     parts: &mut Vec<ActorStep<'s>>,
 ) -> Result<(), NoMemory>
-    ensures { OnOk result (parts_in parts.new.items ≡ parts_in parts.old.items ++ parts_of actor (step_parts step.now)) }
+    ensures { OnOk result (parts_in parts.new.items
+        ≡ parts_in parts.old.items ++ parts_of actor (step_parts step.now)) }
 {
     match step {
         StepForm::Call(form) => add_call(actor, form, parts),
@@ -138,7 +141,8 @@ fn add_steps<'s>(
     steps: &'s [StepForm],
     parts: &mut Vec<ActorStep<'s>>,
 ) -> Result<(), NoMemory>
-    ensures { OnOk result (parts_in parts.new.items ≡ parts_in parts.old.items ++ parts_of actor (steps_parts steps.now)) }
+    ensures { OnOk result (parts_in parts.new.items
+        ≡ parts_in parts.old.items ++ parts_of actor (steps_parts steps.now)) }
 {
     let mut rest = steps;
     while let Some((step, more)) = rest.split_first() {
@@ -200,8 +204,8 @@ fn add_forms<'s>(
     Ok(())
 }
 
-/// Appends the parts of all steps of a script, in the order of the text. `actors` are the actors' names by
-/// number. Fails only if the process is out of memory. A rule of this project.
+/// Appends the parts of all steps of a script, in the order of the text. `actors` are the actors' names
+/// by number. Fails only if the process is out of memory. A rule of this project.
 pub fn add_script<'s>(
     actors: &[Word],
     forms: &'s [DoForm],
@@ -234,8 +238,8 @@ fn add_form_of<'s>(
     Ok(())
 }
 
-/// Appends the parts of the steps of one actor, in the order of the text. `actors` are the actors' names by
-/// number. Fails only if the process is out of memory. A rule of this project.
+/// Appends the parts of the steps of one actor, in the order of the text. `actors` are the actors' names
+/// by number. Fails only if the process is out of memory. A rule of this project.
 pub fn add_actor<'s>(
     actor: Caller,
     actors: &[Word],
